@@ -1,5 +1,5 @@
 -- A compression at the parent that it holds and has got.
-use Rattle.std.proofs.Common.{ℕ, ◌≡◌, List, refl, sym, ◌∙◌, arith, true}
+use Rattle.std.proofs.Common.{ℕ, ◌≡◌, List, refl, sym, ◌∙◌, arith}
 use Rattle.bl_page.specs.declared.page.Page.{Page}
 use Rattle.bl_page.specs.declared.page.Page.TheVariants.{Anchor, Leaf, Inner as InnerPage, Dead}
 use Rattle.bl_page.specs.declared.page.Inner.{Inner}
@@ -46,7 +46,7 @@ pub has_parent : (j : CompressTarget) (x : ℕ) (words : List ℕ) (d : PassStat
 has_parent j x words d there = has_by j x there.page words d there.is there.leads there.takes
 
 -- where it stands that has got the anchor
-pub from_anchor : (j : CompressTarget) (words : List ℕ) (d : PassState) (a : HasGotAnchor (compress_of j (Coming Start)) words d) (s : CompressStage) → CompressGoes j.level j.key true (Coming Start) (seen.Words a.page) s → d.state ≡ compress_of j s
+pub from_anchor : (j : CompressTarget) (words : List ℕ) (d : PassState) (a : HasGotAnchor (compress_of j (Coming Start)) words d) (s : CompressStage) → CompressGoes j.level j.key j.waits (Coming Start) (seen.Words a.page) s → d.state ≡ compress_of j s
 from_anchor j words d a s goes =
     let course = stage_course j (Coming Start) (seen.Words a.page) (compress_of j (Coming Start)) refl refl tt in
     course.only d.state a.takes ∙ sym (course.only (compress_of j s) (refl, refl, refl, goes))

@@ -1,5 +1,5 @@
 -- A compression of which a pass has no value goes on.
-use Rattle.std.proofs.Common.{ℕ, ◌≡◌, ◌≢◌, List, get_or, Option, Some, None, refl, sym, ap, ◌∙◌, subst, true}
+use Rattle.std.proofs.Common.{ℕ, ◌≡◌, ◌≢◌, List, get_or, Option, Some, None, IfNone, refl, sym, ap, ◌∙◌, subst, Bool, true}
 use Rattle.bl_layout.specs.declared.layout.Layout.{Layout}
 use Rattle.bl_page.specs.declared.page.Page.{Page}
 use Rattle.bl_page.specs.Words.{words_of}
@@ -13,7 +13,7 @@ use Rattle.bl_answers.specs.declared.answers.Answer.TheVariants as answer
 use Rattle.bl_answers.specs.declared.answers.Squeezed.{Squeezed}
 use Rattle.bl_answers.specs.declared.answers.Squeezed.TheVariants as squeezed
 use Rattle.bl_proc_compress.specs.declared.compression.Compression.{Compression}
-use Rattle.bl_proc_compress.specs.declared.compression.Compression.TheVariants.{LatchedLeft, LatchingRight, LatchedRight, OpeningLeft, OpeningParent, OpeningRight}
+use Rattle.bl_proc_compress.specs.declared.compression.Compression.TheVariants.{LatchingLeft, LatchedLeft, LatchingRight, LatchedRight, OpeningLeft, OpeningParent, OpeningRight}
 use Rattle.bl_proc_compress.specs.declared.compression.Compressed.TheVariants as step
 use Rattle.bl_proc_compress.specs.declared.compression.Decision.{Decision}
 use Rattle.bl_rearrange.specs.declared.families.Family.{Family}
@@ -24,7 +24,7 @@ use Rattle.bl_proc_compress.specs.declared.compression.Decision.TheVariants.{Mer
 use Rattle.bl_proc_compress.specs.declared.compress.CompressStage.{CompressStage}
 use Rattle.bl_proc_compress.specs.declared.compress.CompressStage.TheVariants.{Coming, Compressing, Ending, Over}
 use Rattle.bl_rearrange.specs.Rearranged.{high_of, right_of}
-use Rattle.bl_proc_compress.specs.Compressions.{compression_next, compression_needs, Compresses}
+use Rattle.bl_proc_compress.specs.Compressions.{compression_next, compression_needs, missed_left, missed_right, Compresses}
 use Rattle.bl_proc_compress.specs.Compresses.{compress_next_in, compress_needs_in, compress_answer_in, compressed_answer}
 use Rattle.bl_proc.specs.declared.kinds.Proc.{Proc}
 use Rattle.bl_proc.specs.Processes.{Takes}
@@ -45,20 +45,27 @@ use Rattle.bl_index_compress.specs.CompressStands.{compress_of, compression_of, 
 use Rattle.bl_index_compress.proofs.Spelled.{reads}
 
 pub stage_course : (j : CompressTarget) (s : CompressStage) (what : Seen) (state : Proc) → state ≡ compress_of j s → compress_answer_in s ≡ None → Gives (compress_next_in s) (compress_needs_in s) what → GoesOn state what
-stage_course j s what state is running given = course_at what state (compress_of j s) is (compress_goes (record { level = j.level; key = j.key; waits = true; stage = s; least = j.least; most = j.most }) what running given)
+stage_course j s what state is running given = course_at what state (compress_of j s) is (compress_goes (record { level = j.level; key = j.key; waits = j.waits; stage = s; least = j.least; most = j.most }) what running given)
 
 pub compression_course : (j : CompressTarget) (c : Compression) (what : Seen) (state : Proc) → state ≡ compression_of j c → Gives (compression_next c) (compression_needs c) what → GoesOn state what
 compression_course j c what state is given = stage_course j (Compressing c) what state is refl given
 
-pub compression_runs : (l : Layout) (j : CompressTarget) (c n : Compression) (what : Seen) (d e : PassState) → IsOn l d (compression_of j c) → Goes what d e → Compresses true c what (step.On n) → IsOn l e (compression_of j n)
+pub compression_runs : (l : Layout) (j : CompressTarget) (c n : Compression) (what : Seen) (d e : PassState) → IsOn l d (compression_of j c) → Goes what d e → Compresses j.waits c what (step.On n) → IsOn l e (compression_of j n)
 compression_runs l j c n what d e on goes t = on_goes l what d e (compression_of j c) (compression_of j n) on goes (refl, refl, refl, t)
 
 -- where a latch that was missed leaves it
-pub misses : (j : CompressTarget) (c : Compression) (state : Proc) → state ≡ compression_of j c → Compresses true c seen.Missed (step.On c) → Takes state seen.Missed state
-misses j c state is t = subst (λ (z : Proc). Takes z seen.Missed z) (sym is) (refl, refl, refl, t)
+misses : (j : CompressTarget) (c n : Compression) (state : Proc) → state ≡ compression_of j c → Compresses j.waits c seen.Missed (step.On n) → Takes state seen.Missed (compression_of j n)
+misses j c n state is t = subst (λ (z : Proc). Takes z seen.Missed (compression_of j n)) (sym is) (refl, refl, refl, t)
+
+-- one that waits stays as it is
+pub misses_left : (j : CompressTarget) (f : Family) (state : Proc) → j.waits ≡ true → state ≡ compression_of j (LatchingLeft f) → Takes state seen.Missed state
+misses_left j f state waits is = subst (λ (z : Proc). Takes state seen.Missed z) (sym is) (misses j (LatchingLeft f) (LatchingLeft f) state is (ap (λ (w : Bool). missed_left w f) (sym waits)))
+
+pub misses_right : (j : CompressTarget) (f : Family) (c : Page) (state : Proc) → j.waits ≡ true → state ≡ compression_of j (LatchingRight f c) → Takes state seen.Missed state
+misses_right j f c state waits is = subst (λ (z : Proc). Takes state seen.Missed z) (sym is) (misses j (LatchingRight f c) (LatchingRight f c) state is (ap (λ (w : Bool). missed_right w f c) (sym waits)))
 
 -- where a latch that it had leaves it
-pub latches : (j : CompressTarget) (c n : Compression) (state : Proc) → state ≡ compression_of j c → Compresses true c seen.Done (step.On n) → Takes state seen.Done (compression_of j n)
+pub latches : (j : CompressTarget) (c n : Compression) (state : Proc) → state ≡ compression_of j c → Compresses j.waits c seen.Done (step.On n) → Takes state seen.Done (compression_of j n)
 latches j c n state is t = subst (λ (z : Proc). Takes z seen.Done (compression_of j n)) (sym is) (refl, refl, refl, t)
 
 -- It opens its parent, and is to end with its answer, or begins again.
@@ -137,12 +144,24 @@ module _ (l : Layout) (j : CompressTarget) (kin : Kin) (parent words : List ℕ)
   pub links_right : get_or words 3 0 ≡ kin.at.right → IsOn l e (compression_of j (LatchingRight f c))
   links_right same = compression_runs l j (LatchedLeft f) (LatchingRight f c) (seen.Words c) d e on goes (refl, refl, sym (reads c words w).right ∙ (same ∙ ap (λ (z : Siblings). z.right) (sym k.at)))
 
-  pub links_left : get_or words 3 0 ≢ kin.at.right → (level : ℕ) → level ≡ j.level → IsOn l e (compression_of j (OpeningLeft kin.at (Unposted (hint.Post level (get_or words 2 0)))))
+  links_left : get_or words 3 0 ≢ kin.at.right → (level : ℕ) → level ≡ j.level → IsOn l e (compression_of j (OpeningLeft kin.at (Unposted (hint.Post level (get_or words 2 0)))))
   links_left differ level named =
       let read = reads c words w in
       let apart : right_of c ≢ f.at.right = λ same. differ (read.right ∙ (same ∙ ap (λ (z : Siblings). z.right) k.at)) in
       subst (λ (z : Siblings × ℕ × ℕ). IsOn l e (compression_of j (OpeningLeft z.0 (Unposted (hint.Post z.1 z.2))))) (λ i. (k.at i, (k.level ∙ sym named) i, sym read.high i))
       (compression_runs l j (LatchedLeft f) (OpeningLeft f.at (Unposted (hint.Post f.parent.level (high_of c)))) (seen.Words c) d e on goes (refl, apart, refl))
+
+  -- and lists a page first that is not listed yet
+  pub unlinked : get_or words 3 0 ≢ kin.at.right → (decision : Decision) → decision ≡ Unposted (hint.Post j.level (get_or words 2 0)) → IsOn l e (compression_of j (OpeningLeft kin.at decision))
+  unlinked differ decision is = subst (λ (z : Decision). IsOn l e (compression_of j (OpeningLeft kin.at z))) (sym is) (links_left differ j.level refl)
+
+-- what it has found at the left child where it does not decide there
+pub linked : (kin : Kin) (words : List ℕ) (decided : Option Decision) → IfNone decided (get_or words 3 0 ≡ kin.at.right) → ((d : Decision) → decided ≡ Some d → ⊥) → get_or words 3 0 ≡ kin.at.right
+linked kin words None h not = h
+linked kin words (Some d) h not = absurd (not d refl)
+
+pub lost_has_room : {A : Type 0} (hint : Option Hint) → ◌≡◌ {A = Option (Squeezed × Option Hint)} None (Some (squeezed.NoRoom, hint)) → A
+lost_has_room hint e = absurd (let z : ◌≡◌ {A = Option (Squeezed × Option Hint)} None (Some (squeezed.NoRoom, hint)) = e in cc)
 
 pub alone_has_room : {A : Type 0} (hint : Option Hint) → ◌≡◌ {A = Option (Squeezed × Option Hint)} (Some (squeezed.Alone, None)) (Some (squeezed.NoRoom, hint)) → A
 alone_has_room hint e = absurd (let z = ap (λ (t : Squeezed × Option Hint). t.0) (answer_same (squeezed.Alone, None) (squeezed.NoRoom, hint) e) in let y : squeezed.Alone ≡ squeezed.NoRoom = z in cc)

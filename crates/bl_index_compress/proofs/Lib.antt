@@ -1,5 +1,6 @@
 pub mod Arrives
 pub mod Evens
+pub mod GivingUp
 pub mod Kins
 pub mod Parted
 pub mod CompressionCourses

@@ -1,5 +1,5 @@
 -- Where a compression stands, of which a pass has no value.
-use Rattle.std.specs.Prelude.{◌≡◌, ℕ, List, Option, Some, None, true}
+use Rattle.std.specs.Prelude.{◌≡◌, ℕ, List, Option, Some, None}
 use Rattle.atomic_table.specs.declared.shared.Seat.{Seat}
 use Rattle.bl_page.specs.declared.page.Page.{Page}
 use Rattle.bl_page.specs.declared.page.Page.TheVariants.{Inner}
@@ -11,7 +11,9 @@ use Rattle.bl_answers.specs.declared.answers.Answer.TheVariants as answer
 use Rattle.bl_answers.specs.declared.answers.Hint.{Hint}
 use Rattle.bl_answers.specs.declared.answers.Squeezed.{Squeezed}
 use Rattle.bl_answers.specs.declared.answers.Squeezed.TheVariants as squeezed
+use Rattle.bl_proc_steps.specs.declared.approach.Approach.{Approach}
 use Rattle.bl_proc_steps.specs.declared.approach.Approach.TheVariants.{Start}
+use Rattle.bl_index_descend.specs.Events.{HoldsNone}
 use Rattle.bl_proc_compress.specs.declared.compression.Compression.{Compression}
 use Rattle.bl_rearrange.specs.declared.families.Family.{Family}
 use Rattle.bl_proc_compress.specs.declared.compression.Puts.{Puts}
@@ -39,9 +41,9 @@ use Rattle.bl_index_compress.specs.declared.targets.Kin.{Kin}
 abbrev H : Type 0
 H = Seat (Unit {0}) (View PassState)
 
--- a compression that has come so far, and waits for its children
+-- a compression that has come so far
 abbrev pub compress_of : CompressTarget → CompressStage → Proc
-compress_of j stage = proc.Compress (record { level = j.level; key = j.key; waits = true; stage = stage; least = j.least; most = j.most })
+compress_of j stage = proc.Compress (record { level = j.level; key = j.key; waits = j.waits; stage = stage; least = j.least; most = j.most })
 
 -- one that holds its parent
 abbrev pub compression_of : CompressTarget → Compression → Proc
@@ -104,6 +106,14 @@ pub record LeavesParent (tree : Tree) (h : H) (hand : Hand PassState) (j : Compr
   pub left : HasLeft j said state
   pub since : IsSameProcess (known h) (known hand.seat)
   pub no_room : (hint : Option Hint) → said ≡ Some (squeezed.NoRoom, hint) → WasRefused hand.seat 0 3
+
+-- It has given up on its way: it holds no page, and has reserved nothing.
+pub record HasTurnedBack (tree : Tree) (d : PassState) (hand : Hand PassState) (j : CompressTarget) : Type 0 where
+  pub way : Approach
+  pub free : HoldsNone way
+  pub runs : Runs tree hand (compress_of j (Coming way))
+  pub empty : HasNoStock hand.seat
+  pub since : IsSameProcess d (known hand.seat)
 
 -- The compression that began as first has ended, and has answered that.
 pub record HasCompressed (pass : ℕ) (old e : PassState) (first : Proc) (what : Squeezed) (hint : Option Hint) : Type 0 where

@@ -1,11 +1,12 @@
 //! A compression that holds its parent, and latches two children of it.
 
-ghost use Rattle.std.specs.Prelude.{◌≡◌, ◌<◌, ◌≤◌, ◌⊎◌, ◌↔◌, IsTrue, true, false};
+ghost use Rattle.std.specs.Prelude.{◌≡◌, ◌≢◌, ◌<◌, ◌≤◌, ◌⊎◌, ◌↔◌, IsTrue, IfSome, IfNone, get_or, true, false};
 ghost use Rattle.bl_page.specs.declared.page.Page.{Page};
 ghost use Rattle.bl_page.specs.Words.{words_of};
 ghost use Rattle.bl_rearrange.specs.Neighbours.{AreNeighbours, together};
-ghost use Rattle.bl_proc_compress.specs.declared.compression.Compression.TheVariants.{LatchingLeft, LatchedRight, PuttingFirst, OpeningRight};
+ghost use Rattle.bl_proc_compress.specs.declared.compression.Compression.TheVariants.{LatchingLeft, LatchedLeft, LatchedRight, PuttingFirst, OpeningRight, OpeningLeft};
 ghost use Rattle.bl_proc_compress.specs.declared.compression.Decision.TheVariants as decisions;
+ghost use Rattle.bl_answers.specs.declared.answers.Hint.TheVariants as hints;
 ghost use Rattle.bl_rearrange.specs.declared.families.Family.{Family};
 ghost use Rattle.bl_proc_compress.specs.declared.compression.Puts.{Puts as PutsIs};
 ghost use Rattle.bl_proc_compress.specs.Compressions.{MayEven, after_puts};
@@ -29,6 +30,21 @@ use bl_proc_steps::{Hint, Level, Squeezed};
 use bl_rearrange::Side;
 use bl_store::Hand;
 use std::sync::Wait;
+
+/// What it decides at the left child, with these words, if that does not link to the right one: a page between the two is to be listed first.
+fn unposted_at(target: CompressTarget, kin: Kin, left: &[u64; 32]) -> Option<Decision>
+    ensures some { IfSome result (λ decision. (get_or left.now 3 0 ≢ kin.at.right)
+        × (decision ≡ decisions.Unposted (hints.Post target.level (get_or left.now 2 0)))) }
+    ensures none { IfNone result (get_or left.now 3 0 ≡ kin.at.right) }
+{
+    if left[RIGHT] != kin.at.right as u64 {
+        return Some(Decision::Unposted(Hint::Post {
+            level: Level::new(target.level),
+            key: left[HIGH],
+        }));
+    }
+    None
+}
 
 /// What a compression answers by what became of the children, if it does not begin again.
 fn answer_of(decision: Decision) -> Option<(Squeezed, Option<Hint>)>
@@ -238,20 +254,61 @@ fn latch_and_compress<R: Wait>(
 ) -> Decision
     requires runs { Runs tree.now hand.old (known hand.old.seat).state }
     requires empty { HasNoStock hand.old.seat }
+    requires waits { target.waits ≡ true }
     requires process { (f : Family) × IsKin target kin parent.now f × ((known hand.old.seat).state ≡ compression_of target (LatchingLeft f)) }
     ensures { IsDecided tree.now hand.old.seat hand.new target kin result }
 {
     latch(tree, rt, hand, kin.at.left);
     let left = words_at(tree, hand, kin.at.left);
-    if left[RIGHT] != kin.at.right as u64 {
-        let hint = Hint::Post {
-            level: Level::new(target.level),
-            key: left[HIGH],
-        };
-        return Decision::Unposted(hint);
+    if let Some(decision) = unposted_at(target, kin, &left) {
+        return decision;
     }
     latch(tree, rt, hand, kin.at.right);
+    tree.await_frames(hand);
     decide(tree, hand, target, kin, parent, &left)
+}
+
+/// It has latched the left child, and tries the latch of the right one, if the left one links to it. It waits for nothing.
+fn compress_from_left(
+    tree: &Tree,
+    hand: &mut Hand<PassState>,
+    target: CompressTarget,
+    kin: Kin,
+    parent: &[u64; 32],
+) -> Decision
+    requires runs { Runs tree.now hand.old (known hand.old.seat).state }
+    requires empty { HasNoStock hand.old.seat }
+    requires yields { target.waits ≡ false }
+    requires process { (f : Family) × IsKin target kin parent.now f × ((known hand.old.seat).state ≡ compression_of target (LatchedLeft f)) }
+    ensures { IsDecided tree.now hand.old.seat hand.new target kin result }
+{
+    let left = words_at(tree, hand, kin.at.left);
+    if let Some(decision) = unposted_at(target, kin, &left) {
+        return decision;
+    }
+    if tree.try_latch(hand, kin.at.right) {
+        return decide(tree, hand, target, kin, parent, &left);
+    }
+    Decision::Lost
+}
+
+/// The left child and the parent are opened. What it answers, unless it begins again.
+fn open_family(
+    tree: &Tree,
+    hand: &mut Hand<PassState>,
+    target: CompressTarget,
+    kin: Kin,
+    decision: Decision,
+) -> Option<(Squeezed, Option<Hint>)>
+    requires runs { Runs tree.now hand.old (compression_of target (OpeningLeft kin.at decision)) }
+    requires empty { HasNoStock hand.old.seat }
+    requires no_room { decision ≡ decisions.Refused → WasRefused hand.old.seat 0 3 }
+    ensures { LeavesParent tree.now hand.old.seat hand.new target result }
+{
+    let _ = target;
+    tree.reopen(hand, kin.at.left);
+    tree.reopen(hand, kin.at.parent);
+    answer_of(decision)
 }
 
 /// The two children are compressed, and the left one and the parent are opened. What it answers, unless it begins again.
@@ -265,11 +322,32 @@ pub(crate) fn compress_two<R: Wait>(
 ) -> Option<(Squeezed, Option<Hint>)>
     requires runs { Runs tree.now hand.old (known hand.old.seat).state }
     requires empty { HasNoStock hand.old.seat }
+    requires waits { target.waits ≡ true }
     requires process { (f : Family) × IsKin target kin parent.now f × ((known hand.old.seat).state ≡ compression_of target (LatchingLeft f)) }
     ensures { LeavesParent tree.now hand.old.seat hand.new target result }
 {
     let decision = latch_and_compress(tree, rt, hand, target, kin, parent);
-    tree.reopen(hand, kin.at.left);
+    open_family(tree, hand, target, kin, decision)
+}
+
+/// The same, which waits for no child: where it misses a latch, it opens what it holds.
+pub(crate) fn compress_two_within(
+    tree: &Tree,
+    hand: &mut Hand<PassState>,
+    target: CompressTarget,
+    kin: Kin,
+    parent: &[u64; 32],
+) -> Option<(Squeezed, Option<Hint>)>
+    requires runs { Runs tree.now hand.old (known hand.old.seat).state }
+    requires empty { HasNoStock hand.old.seat }
+    requires yields { target.waits ≡ false }
+    requires process { (f : Family) × IsKin target kin parent.now f × ((known hand.old.seat).state ≡ compression_of target (LatchingLeft f)) }
+    ensures { LeavesParent tree.now hand.old.seat hand.new target result }
+{
+    if tree.try_latch(hand, kin.at.left) {
+        let decision = compress_from_left(tree, hand, target, kin, parent);
+        return open_family(tree, hand, target, kin, decision);
+    }
     tree.reopen(hand, kin.at.parent);
-    answer_of(decision)
+    None
 }

@@ -72,7 +72,6 @@ pub(crate) fn put_first(
         IsStockOf hand.new.seat s × (s.count ≡ 2) × MayRetire hand.new.seat × Goes seen.Done (known hand.old.seat) (known hand.new.seat)) }
     ensures asked { IfNone result (WasRefused hand.new.seat 0 3) }
 {
-    tree.await_frames(hand);
     match reserve::<_, _, _, Took, Refused>(&tree.store, hand, 0, 3) {
         Ok(stock) => {
             let mut stock = stock;

@@ -2,7 +2,7 @@
 //!
 //! Promised to the index: what a compression answers, with its hint, and that its process did what a compression does. It goes by its
 //! events and by the words of the pages: two children are merged or evened out from words to words, so that no page is made of them, and
-//! there is no process value.
+//! there is no process value. One that may not wait opens what it holds where it misses a latch, and gives up: it has not been done then.
 #![tactic(auto)]
 
 mod children;
@@ -13,4 +13,4 @@ mod pages;
 mod shares;
 mod targets;
 
-pub use compressing::compress_children;
+pub use compressing::{compress_children, try_compress};

@@ -12,6 +12,8 @@ pub(crate) struct CompressTarget {
     /// The level of the parent, 1 to 12.
     pub(crate) level: u32,
     pub(crate) key: u64,
+    /// Whether it holds the parent, and tries again, where it misses the latch of a child. One that does not opens what it holds.
+    pub(crate) waits: bool,
     pub(crate) ghost least: { 0 < level },
     pub(crate) ghost most: { level ≤ 12 },
 }
@@ -25,7 +27,7 @@ pub(crate) struct Kin {
 }
 
 impl Target for CompressTarget {
-    ghost use Rattle.std.specs.Prelude.{refl, true, ◌<◌};
+    ghost use Rattle.std.specs.Prelude.{refl, ◌<◌};
     ghost use Rattle.bl_page.specs.Nodes.{roots_of};
     ghost use Rattle.bl_proc.specs.declared.kinds.Proc.TheVariants as proc;
     ghost use Rattle.bl_proc_compress.specs.declared.compress.CompressStage.TheVariants as stages;
@@ -35,7 +37,7 @@ impl Target for CompressTarget {
 
     type Path = ();
 
-    ghost at = { λ j n a. proc.Compress (record { level = j.level; key = j.key; waits = true; stage = stages.Coming a; least = j.least; most = j.most }) };
+    ghost at = { λ j n a. proc.Compress (record { level = j.level; key = j.key; waits = j.waits; stage = stages.Coming a; least = j.least; most = j.most }) };
 
     ghost level_of = { λ j. j.level };
 
@@ -62,32 +64,32 @@ impl Target for CompressTarget {
     ghost acts = { λ j n a. refl };
 
     ghost courses = { λ j n a what g.
-        compress_goes (record { level = j.level; key = j.key; waits = true; stage = stages.Coming a; least = j.least; most = j.most }) what refl g };
+        compress_goes (record { level = j.level; key = j.key; waits = j.waits; stage = stages.Coming a; least = j.least; most = j.most }) what refl g };
 
     ghost enters = { λ j n a c led t. (refl, refl, refl, (descend.On a, (led, t), refl)) };
 
     ghost turns = { λ j n m x c o a leads turns noted. (refl, refl, refl, (descend.On a, (tt, (o, leads, turns)), refl)) };
 
-    ghost goes = { λ j n a b what hold t. (refl, refl, refl, nears j.level j.key true a b what hold t) };
+    ghost goes = { λ j n a b what hold t. (refl, refl, refl, nears j.level j.key j.waits a b what hold t) };
 }
 
 impl Unborn for CompressTarget {
-    ghost use Rattle.std.specs.Prelude.{refl, true};
+    ghost use Rattle.std.specs.Prelude.{refl};
     ghost use Rattle.bl_proc.specs.declared.kinds.Proc.TheVariants as proc;
     ghost use Rattle.bl_proc_compress.specs.declared.compress.CompressStage.TheVariants as stages;
     ghost use Rattle.bl_proc_steps.specs.declared.acts.Seen.TheVariants as seen;
     ghost use Rattle.bl_proc_steps.specs.declared.approach.Approach.TheVariants as approach;
     ghost use Rattle.bl_proc_deterministic.proofs.Compressions.{compress_goes};
 
-    ghost unborn = { λ j. proc.Compress (record { level = j.level; key = j.key; waits = true; stage = stages.New; least = j.least; most = j.most }) };
+    ghost unborn = { λ j. proc.Compress (record { level = j.level; key = j.key; waits = j.waits; stage = stages.New; least = j.least; most = j.most }) };
 
     ghost begun = { λ j.
-        proc.Compress (record { level = j.level; key = j.key; waits = true; stage = stages.Coming approach.Start; least = j.least; most = j.most }) };
+        proc.Compress (record { level = j.level; key = j.key; waits = j.waits; stage = stages.Coming approach.Start; least = j.least; most = j.most }) };
 
     ghost begins = { λ j. refl };
 
     ghost starts = { λ j.
-        compress_goes (record { level = j.level; key = j.key; waits = true; stage = stages.New; least = j.least; most = j.most }) seen.Done refl tt };
+        compress_goes (record { level = j.level; key = j.key; waits = j.waits; stage = stages.New; least = j.least; most = j.most }) seen.Done refl tt };
 
     ghost started = { λ j. (refl, refl, refl, refl) };
 }

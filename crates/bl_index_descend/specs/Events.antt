@@ -13,8 +13,9 @@ use Rattle.bl_proc_steps.specs.declared.approach.Approach.TheVariants.{Start, At
 use Rattle.bl_proc_routes.specs.declared.routes.Step.TheVariants.{Here}
 use Rattle.bl_proc_routes.specs.Routes.{Leads}
 use Rattle.bl_proc.specs.declared.kinds.Proc.{Proc}
-use Rattle.bl_proc.specs.Processes.{Takes}
+use Rattle.bl_proc.specs.Processes.{next_of, Takes}
 use Rattle.bl_index_rule.specs.declared.known.PassState.{PassState}
+use Rattle.bl_index_rule.specs.Observed.{IsNear}
 use Rattle.bl_index_descend.specs.declared.coming.Arrived.{Arrived}
 use Rattle.bl_index_descend.specs.declared.coming.Arrived.TheVariants.{There, Away}
 use Rattle.bl_index_descend.specs.declared.reaching.Neared.{Neared}
@@ -40,12 +41,13 @@ abbrev pub IsSought : (Approach → Proc) → Layout → PassState → Result �
 IsSought at l d (Ok x) = IsOn l d (at (Latching x))
 IsSought at l d (Err a) = HasGivenUp at l d a
 
--- The writer that held a page of its level, to cover that key, has got it: the page has these words, and covers the key.
+-- The writer that held a page of its level, to cover that key, has got it: the page is one of the index, has these words, and covers the key.
 pub record IsThere (level key : ℕ) (latched : Proc) (words : List ℕ) (d : PassState) : Type 0 where
   pub page : Page
   pub is : words ≡ words_of page
   pub leads : Leads page key level Here
   pub takes : Takes latched (seen.Words page) d.state
+  pub near : IsNear d.pages (next_of latched)
 
 -- The writer that began its way has got the anchor, which has these words.
 pub record HasGotAnchor (start : Proc) (words : List ℕ) (d : PassState) : Type 0 where

@@ -19,6 +19,10 @@ use crossbeam_utils::Backoff;
 use std::marker::Brand;
 use std::sync::Wait;
 
+/// How often a writer that may not wait tries to come to its page before it gives up. It needs more than one try even where no other thread
+/// writes: it has to move right from a page that it has latched.
+const TRIES: u32 = 16;
+
 /// What a writer sees at a page that it holds.
 #[derive(Clone, Copy)]
 pub(crate) enum Arrived {
@@ -223,6 +227,36 @@ pub(crate) fn come_within<J: Target>(
     }
 }
 
+/// The same, which goes on where it has missed the latch, and to the right of a page that it has latched, so many times at most. It spins
+/// meanwhile, and lets no other thread run.
+#[inline(always)]
+pub(crate) fn come_trying<J: Target>(
+    tree: &Tree,
+    hand: &mut Hand<PassState>,
+    target: &J,
+    path: &mut J::Path,
+    from: Approach,
+    turns: u32,
+) -> Result<(u32, Glance), Approach>
+    requires runs { Runs tree.now hand.old (J.at target.now path.old from) }
+    requires free { HoldsNone from }
+    ensures same { KeepsHand hand.old.seat hand.new.seat }
+    ensures came { HasComeWithin (J.level_of target.now) (J.key_of target.now) (J.at target.now path.new) tree.now.store.layout hand.new.seat result }
+    ensures since { IsSameProcess (known hand.old.seat) (known hand.new.seat) }
+{
+    let backoff = Backoff::new();
+    let mut from = from;
+    for _round in 0..TRIES {
+        match come_within(tree, hand, target, path, from, turns) {
+            Ok(found) => return Ok(found),
+            Err(Approach::Start) => return Err(Approach::Start),
+            Err(way) => from = way,
+        }
+        backoff.spin();
+    }
+    Err(from)
+}
+
 /// Pauses after a miss. After a latch the next miss is a first one.
 fn pause_after(backoff: &Backoff, way: &Approach) {
     match way {
@@ -263,7 +297,8 @@ pub(crate) fn come_from<J: Target, R: Wait>(
     unreachable!()
 }
 
-/// It comes to the page of its level that covers its key, as above, or gives up.
+/// It comes to the page of its level that covers its key, as above, or gives up: where its way begins again, and after so many tries, each
+/// of so many turns.
 #[inline(always)]
 pub fn descend_within<J: Target>(
     tree: &Tree,
@@ -279,7 +314,7 @@ pub fn descend_within<J: Target>(
     ensures since { IsSameProcess (known hand.old.seat) (known hand.new.seat) }
 {
     let from = read_anchor(tree, hand, target, path);
-    come_within(tree, hand, target, path, from, turns)
+    come_trying(tree, hand, target, path, from, turns)
 }
 
 /// It comes to the page of its level that covers its key, which it holds then and got last.

@@ -8,7 +8,7 @@ ghost use Rattle.bl_store.specs.Hands.{known, read_words, ReadsFrom};
 ghost use Rattle.bl_index_events.specs.Runs.{Runs, KeepsHand, IsSameProcess};
 ghost use Rattle.bl_index_descend.specs.Events.{HasGotAnchor, HasNeared, HasReached, HoldsNone, reached_by};
 
-use crate::coming::{come_from, come_within};
+use crate::coming::{come_from, come_trying};
 use crate::targets::Target;
 use bl_index_events::{FrameView, Tree};
 use bl_index_rule::PassState;
@@ -124,7 +124,7 @@ pub fn reach_within<J: Target>(
     ensures since { IsSameProcess (known hand.old.seat) (known hand.new.seat) }
 {
     match look_up(tree, hand, target, path) {
-        Ok(way) => match come_within(tree, hand, target, path, way, turns) {
+        Ok(way) => match come_trying(tree, hand, target, path, way, turns) {
             Ok((at, glance)) => Neared::Parent(at, glance),
             Err(way) => Neared::Underway(way),
         },

@@ -5,4 +5,3 @@ pub mod AtParent
 pub mod Spreading
 pub mod Splits
 pub mod Walked
-pub mod HandedOver

@@ -38,7 +38,7 @@ use Rattle.bl_store_rule.specs.declared.view.View.{View}
 use Rattle.bl_store.specs.Hands.{known, IsSameHand, IsSameRefusal}
 use Rattle.bl_index_rule.specs.declared.known.PassState.{PassState}
 use Rattle.bl_proc_writes.specs.Stands.{IsPosting}
-use Rattle.bl_index_edit.specs.Events.{HasOpenedParent, IsToEnter, IsWalking, LeavesParent}
+use Rattle.bl_index_edit.specs.Events.{HasOpenedParent, IsToEnter, IsWalking, LeavesParent, WalksOn, WalksStill}
 use Rattle.bl_index_edit.specs.Posters.{IsPoster, Opened, Staged}
 use Rattle.bl_index_events.specs.Held.{KeepsLatch}
 use Rattle.bl_index_events.specs.Rooms.{LacksPost}
@@ -201,3 +201,15 @@ leaves_opened tree h hand level key staged opened replies r left e =
 
 pub leaves_again : (tree : Tree) (h : H) (hand : Hand PassState) (level key : ℕ) (staged : Staged level) (opened : Opened level) (replies : Option PostReply) → LeavesParent tree h hand level key staged opened replies → replies ≡ None → Runs tree hand (staged (post.Coming approach.Start) tt tt)
 leaves_again tree h hand level key staged opened replies left e = subst (λ (z : Proc). Runs tree hand z) (subst (λ (z : Option PostReply). HasOpenedParent level staged opened z left.state) e left.is) left.runs
+
+-- It is on its walk still.
+pub walks_still : (tree : Tree) (h : Seat (Unit {0}) (View PassState)) (hand : Hand PassState) (level key : ℕ) (staged : Staged level) (x : ℕ) (words : List ℕ) (y : ℕ) → WalksOn tree h hand level key staged x words y → WalksStill tree h hand level staged x
+walks_still tree h hand level key staged x words y on = record {
+  walk = on.walking.walk;
+  at = on.walking.at;
+  same = on.same;
+  empty = on.empty;
+  below = on.walking.below;
+  runs = subst (λ (z : Proc). Runs tree hand z) on.walking.is on.runs;
+  since = on.since;
+}

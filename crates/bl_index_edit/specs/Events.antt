@@ -83,10 +83,6 @@ HasWalked level key staged l x words y d Found = (below : level < 12) × (c : Ed
 HasWalked level key staged l x words y d Stale = IsOn l d (staged (post.Staying x reply.Stale) tt tt)
 HasWalked level key staged l x words y d Lost = IsOn l d (staged (post.Coming (Leaving x None)) tt tt)
 
--- It is the walk with that key from page x, which has these words, that is to get page y.
-abbrev pub IsWalkOf : ℕ → ℕ → List ℕ → ℕ → Walk → Type 0
-IsWalkOf x key words y walk = (walk.at ≡ x) × (walk.key ≡ key) × (words ≡ words_of (Inner walk.parent)) × (walk.child ≡ y)
-
 -- It holds its parent x, which has these words, and is to get page y on its way to the child that covers its key.
 pub record WalksOn (tree : Tree) (h : Seat (Unit {0}) (View PassState)) (hand : Hand PassState) (level key : ℕ) (staged : Staged level) (x : ℕ)
     (words : List ℕ) (y : ℕ) : Type 0 where
@@ -96,9 +92,11 @@ pub record WalksOn (tree : Tree) (h : Seat (Unit {0}) (View PassState)) (hand : 
   pub walking : IsWalking level key staged x words y (known hand.seat).state
   pub since : IsSameProcess (known h) (known hand.seat)
 
--- It holds its parent, and is on that walk.
-pub record WalksStill (tree : Tree) (h : Seat (Unit {0}) (View PassState)) (hand : Hand PassState) (level : ℕ) (staged : Staged level) (walk : Walk) :
+-- It holds its parent x, and is on its walk to the child.
+pub record WalksStill (tree : Tree) (h : Seat (Unit {0}) (View PassState)) (hand : Hand PassState) (level : ℕ) (staged : Staged level) (x : ℕ) :
     Type 0 where
+  pub walk : Walk
+  pub at : walk.at ≡ x
   pub same : IsSameHand h hand.seat
   pub empty : HasNoStock hand.seat
   pub below : level < 12

@@ -19,5 +19,5 @@ mod writers;
 pub use leaves::write_there;
 pub use parents::post_there;
 pub use posters::Poster;
-pub use walks::post_there_within;
+pub use walks::{Far, post_there_within};
 pub use writers::{Left, Writer};

@@ -1,41 +1,23 @@
-//! A post at its parent that may not wait: where its walk is long, it hands the walk over as it stands.
+//! A post at its parent that may not wait: where its walk is long, it comes back and holds the parent still.
 
-ghost use Rattle.std.specs.Prelude.{◌≡◌, IfOk, IfErr};
+ghost use Rattle.std.specs.Prelude.{IfOk, IfErr};
 ghost use Rattle.bl_proc_steps.specs.declared.approach.Approach.TheVariants as approach;
 ghost use Rattle.bl_proc_writes.specs.declared.post.PostStage.TheVariants as post;
-ghost use Rattle.bl_proc_writes.specs.declared.walking.Walk.{Walk as WalkIs};
 ghost use Rattle.bl_store.specs.Hands.{known, read_words, HasNoStock, ReadsFrom};
 ghost use Rattle.bl_index_events.specs.Runs.{Runs};
 ghost use Rattle.bl_index_descend.specs.Events.{IsThere};
-ghost use Rattle.bl_index_edit.specs.Events.{IsWalkOf, LeavesParent, WalksStill};
+ghost use Rattle.bl_index_edit.specs.Events.{LeavesParent, WalksStill};
 
 use crate::parents::{begin_walk, stay, walk_within};
 use crate::posters::Poster;
 use bl_index_events::Tree;
 use bl_index_rule::PassState;
-use bl_page::{Page, from_wide_words};
-use bl_proc_writes::{PostReply, Walk};
+use bl_proc_writes::PostReply;
 use bl_store::{Glance, Hand};
 
-/// The walk from that parent, with these words, as a value.
-#[inline(never)]
-fn walk_from(at: u32, key: u64, parent: &[u64; 32], child: u32) -> Walk
-    requires { (w : WalkIs) × IsWalkOf at key parent.now child w }
-    ensures { (w : WalkIs) → IsWalkOf at key parent.now child w → result ≡ w }
-{
-    let Ok(page) = from_wide_words(parent) else {
-        unreachable!();
-    };
-    let Page::Inner(parent) = page else {
-        unreachable!();
-    };
-    Walk {
-        at,
-        key,
-        parent,
-        child,
-    }
-}
+/// The walk to the child is long: the post holds its parent still.
+#[derive(Clone, Copy)]
+pub struct Far;
 
 /// At the parent that it holds, which covers the key. It waits for nothing. Where it has not come to the child after so many turns, it
 /// holds the parent still, and is on that walk.
@@ -46,7 +28,7 @@ pub fn post_there_within<P: Poster>(
     at: u32,
     glance: Glance,
     turns: u32,
-) -> Result<Option<PostReply>, Walk>
+) -> Result<Option<PostReply>, Far>
     requires runs { Runs tree.now hand.old (known hand.old.seat).state }
     requires empty { HasNoStock hand.old.seat }
     requires reads { ReadsFrom hand.old.seat glance }
@@ -54,7 +36,7 @@ pub fn post_there_within<P: Poster>(
         (read_words hand.old.seat) (known hand.old.seat) }
     ensures left { IfOk result (λ replies. LeavesParent tree.now hand.old.seat hand.new (P.level_of poster.now) (P.key_of poster.now) (P.staged poster.now)
         (P.opened poster.now) replies) }
-    ensures walks { IfErr result (λ walk. WalksStill tree.now hand.old.seat hand.new (P.level_of poster.now) (P.staged poster.now) walk) }
+    ensures walks { IfErr result (λ far. WalksStill tree.now hand.old.seat hand.new (P.level_of poster.now) (P.staged poster.now) at) }
 {
     let mut parent = [0; 32];
     let child = match begin_walk(tree, hand, poster, at, glance, &mut parent) {
@@ -63,6 +45,6 @@ pub fn post_there_within<P: Poster>(
     };
     match walk_within(tree, hand, poster, at, &parent, child, turns) {
         Ok(replies) => Ok(replies),
-        Err(next) => Err(walk_from(at, poster.key(), &parent, next)),
+        Err(_next) => Err(Far),
     }
 }

@@ -1,4 +1,5 @@
 pub mod Calls
+pub mod Silent
 pub mod Got
 pub mod Held
 pub mod Standing

@@ -4,7 +4,9 @@ use Rattle.bl_model.specs.declared.operation.Op.{Op}
 use Rattle.bl_model.specs.declared.operation.Reply.{Reply}
 use Rattle.bl_page.specs.declared.page.Page.{Page}
 use Rattle.bl_claims.specs.Trails.{Trail, marks_of}
+use Rattle.bl_claims.specs.Meanings.{writes_of}
 use Rattle.bl_claims.specs.Seeing.{IsLinearizable, own, Holds, name}
+use Rattle.bl_index_rule.specs.declared.known.PassState.{PassState}
 
 -- The process of a call, whose events stand in what is new of the trail, answered that, and what it did is so.
 pub record InCall (pass : ℕ) (answer : Option Reply) (old new : Trail) (IsSo : Trail → Type 0) : Type 0 where
@@ -27,3 +29,12 @@ pub record SaysNothing (first : List (Option Page)) (pass : ℕ) (old new : Trai
   pub holds : Holds (name pass number) None old new
   pub seen : IsLinearizable first new
   pub none : own pass new ≡ own pass old
+
+-- it has written nothing
+abbrev pub WritesNothing : Trail → Type 0
+WritesNothing marks = writes_of marks ≡ []
+
+-- The call of the pass was not done: its process has given up, has said nothing, and leaves no more than that.
+pub record Undone (Left : Trail → Type 0) (pass : ℕ) (old e : PassState) : Type 0 where
+  pub says : SaysNothing old.first pass old.trail e.trail
+  pub left : Left (marks_of (name pass says.number) e.trail)

@@ -14,13 +14,16 @@ ghost use Rattle.bl_proc_deterministic.specs.Frames.{op_of, work_of};
 ghost use Rattle.bl_store.specs.Drafts.{IsSplice};
 ghost use Rattle.bl_store.specs.Hands.{known, read_words, IsSameHand, IsSameStamp, IsSameStock, HasNoStock, IsStockOf, ReadsFrom, WasRefused, IsSameRefusal, Keeps, KeepsNow};
 ghost use Rattle.bl_index_rule.specs.declared.known.PassState.{PassState as Knows};
-ghost use Rattle.bl_index_rule.specs.Observed.{Goes, HasFirmTrail, is_unput as unput_since};
+ghost use Rattle.bl_index_rule.specs.Observed.{Goes, HasFirmTrail, HasLeftTop, HasLeftWalk, is_unput as unput_since};
+ghost use Rattle.bl_proc_invariant.specs.Walks.{LeavesWalk, at_summit};
+ghost use Rattle.bl_proc_steps.specs.declared.lowering.Summit.{Summit as SummitIs};
 ghost use Rattle.bl_index_events.specs.Held.{KeepsLatch};
 ghost use Rattle.bl_index_events.specs.Runs.{Runs, KeepsHand, Rests, IsSince, IsDone, EndsAs};
 
 use crate::tree::Tree;
 use bl_index_rule::{
-    Ended, Got, GotKept, Opened, PassState, Probed, Put, Refused, Took, Tried, Unput,
+    Ended, Got, GotKept, LeftTop, LeftWalk, Opened, PassState, Probed, Put, Refused, Took, Tried,
+    Unput,
 };
 use bl_reserve::{finds_frames, reserve};
 use bl_store::{Glance, Hand, Splice, Stock};
@@ -114,6 +117,33 @@ impl Tree {
         ensures refusal { IsSameRefusal hand.old.seat hand.new.seat }
     {
         self.store.open::<Opened>(hand, page);
+    }
+
+    /// A post on its walk from the page to the child gives that up, and opens the page: it goes on as one that was about to open it, and
+    /// begins its way again. So a post that may not wait need not hold its parent however long the walk is.
+    #[inline(always)]
+    pub fn leave_walk(&self, hand: &mut Hand<PassState>, page: u32)
+        requires runs { Runs self.now hand.old (known hand.old.seat).state }
+        requires page { page < self.now.store.layout.pages }
+        requires walks { (off : Proc) × LeavesWalk (known hand.old.seat).state off page }
+        ensures same { KeepsHand hand.old.seat hand.new.seat }
+        ensures off { HasLeftWalk (known hand.old.seat) page (known hand.new.seat) }
+        ensures refusal { IsSameRefusal hand.old.seat hand.new.seat }
+    {
+        self.store.open::<LeftWalk>(hand, page);
+    }
+
+    /// A lowering that holds the anchor, and is to latch the top page, opens the anchor and looks again: so one that may not wait need not hold
+    /// it as long as that page is another's.
+    #[inline(always)]
+    pub fn leave_top(&self, hand: &mut Hand<PassState>)
+        requires runs { Runs self.now hand.old (known hand.old.seat).state }
+        requires top { (t : SummitIs) × ((known hand.old.seat).state ≡ at_summit t) }
+        ensures same { KeepsHand hand.old.seat hand.new.seat }
+        ensures left { HasLeftTop (known hand.old.seat) (known hand.new.seat) }
+        ensures refusal { IsSameRefusal hand.old.seat hand.new.seat }
+    {
+        self.store.open::<LeftTop>(hand, 0);
     }
 
     /// Lets other threads run while a reservation would find too few frames, so often at most: those that hold frames back may be in the

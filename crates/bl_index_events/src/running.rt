@@ -9,13 +9,12 @@ ghost use Rattle.bl_proc.specs.Processes.{next_of};
 ghost use Rattle.bl_proc_deterministic.specs.Courses.{GoesOn};
 ghost use Rattle.bl_proc_invariant.specs.Knowing.{end_of_proc};
 ghost use Rattle.bl_proc_invariant.specs.Logs.{proc_log};
-ghost use Rattle.bl_claims.specs.Latches.{OnlyLooks};
 ghost use Rattle.bl_proc_bounds.specs.Latches.{IsTidy};
 ghost use Rattle.bl_claims.specs.Trails.{marks_of};
 ghost use Rattle.bl_claims.specs.Seeing.{name};
 ghost use Rattle.bl_store.specs.Hands.{known, IsIdle, IsRunning, IsSameHand, IsSameStock, IsSameRefusal};
 ghost use Rattle.bl_store.specs.Owners.{IsHandOf};
-ghost use Rattle.bl_index_rule.specs.Observed.{Begins, Steps, Finishes, IsUnborn, MayGiveUp};
+ghost use Rattle.bl_index_rule.specs.Observed.{Begins, Steps, Finishes, IsUnborn, Leaves, MayGiveUp};
 ghost use Rattle.bl_index_events.specs.Runs.{Runs, KeepsHand, IsSince, IsWithin, Moves};
 
 use crate::frame_view::FrameView;
@@ -102,7 +101,7 @@ impl Tree {
         process.took(Seen::Done);
     }
 
-    /// A search that has said nothing ends at once.
+    /// A process that holds no page and has said nothing ends at once. It has written nothing, or new top levels alone where it is a post.
     #[inline(always)]
     pub fn give_up(&self, hand: &mut Hand<PassState>)
         requires own { IsHandOf self.now.store hand.old }
@@ -112,7 +111,10 @@ impl Tree {
         ensures same { IsSameHand hand.old.seat hand.new.seat × IsSameStock hand.old.seat hand.new.seat }
         ensures idle { IsIdle hand.new.seat }
         ensures observed { Finishes None (known hand.old.seat) (known hand.new.seat) }
-        ensures looks { OnlyLooks (marks_of (name (known hand.old.seat).pass (known hand.old.seat).number) (known hand.new.seat).trail) }
+        ensures tidy { IsTidy (known hand.old.seat).state
+            (marks_of (name (known hand.old.seat).pass (known hand.old.seat).number) (known hand.new.seat).trail) }
+        ensures leaves { Leaves (known hand.old.seat).state
+            (marks_of (name (known hand.old.seat).pass (known hand.old.seat).number) (known hand.new.seat).trail) }
         ensures within { IsWithin hand.new.seat }
     {
         self.store.end::<GaveUp>(hand);

@@ -1,4 +1,3 @@
-pub mod Silent
 pub mod Paces
 pub mod Ways
 pub mod Setting

@@ -25,11 +25,15 @@ use Rattle.bl_proc_deterministic.proofs.Searches.{find_goes}
 use Rattle.bl_proc_deterministic.proofs.Parts.{part_goes}
 use Rattle.bl_proc_deterministic.proofs.Listings.{toward_some}
 use Rattle.bl_index_rule.specs.declared.known.PassState.{PassState}
-use Rattle.bl_index_rule.specs.Observed.{Steps, Goes, MayGiveUp, IsUnborn}
+use Rattle.bl_index_rule.specs.Observed.{Steps, Goes, Leaves, MayGiveUp, IsUnborn}
+use Rattle.bl_claims.specs.Trails.{Trail}
+use Rattle.bl_claims.specs.Latches.{OnlyLooks}
+use Rattle.bl_proc_bounds.specs.Latches.{IsTidy}
+use Rattle.bl_proc_invariant.proofs.Looking.{only_looks}
 use Rattle.bl_index_read.specs.declared.sought.Sought.{Sought}
 use Rattle.bl_index_read.specs.declared.sought.Sought.TheVariants.{Value, Rows}
 use Rattle.bl_index_read.specs.LeafWays.{searching, listing, fresh, probing, going, EndsWith}
-use Rattle.bl_index_read.proofs.Silent.{may_give_up}
+use Rattle.bl_index_events.proofs.Silent.{may_give_up}
 
 -- ---- one that is to begin
 
@@ -104,8 +108,13 @@ going_under_way Value key way state e = subst IsUnderWay (sym e) tt
 going_under_way (Rows direction) from way state e = subst IsUnderWay (sym e) tt
 
 pub going_may_give_up : (s : Sought) (key : ℕ) (way : Descent) (state : Proc) → state ≡ going s key way → MayGiveUp state
-going_may_give_up Value key way state e = may_give_up state (searching key (find.Descending way)) e tt (λ got child time. record { busy = refl; silent = refl; empty = refl; no_middle = refl })
-going_may_give_up (Rows direction) from way state e = may_give_up state (listing direction from (part.Descending way)) e tt (λ got child time. record { busy = refl; silent = refl; empty = refl; no_middle = refl })
+going_may_give_up Value key way state e = may_give_up state (searching key (find.Descending way)) e (λ marks log. log) (λ got child time. record { busy = refl; silent = refl; empty = refl; no_middle = refl })
+going_may_give_up (Rows direction) from way state e = may_give_up state (listing direction from (part.Descending way)) e (λ marks log. log) (λ got child time. record { busy = refl; silent = refl; empty = refl; no_middle = refl })
+
+-- one that has given up has only looked
+pub going_looks : (s : Sought) (key : ℕ) (way : Descent) (state : Proc) (marks : Trail) → state ≡ going s key way → IsTidy state marks → Leaves state marks → OnlyLooks marks
+going_looks Value key way state marks e tidy left = only_looks marks (subst (λ (z : Proc). IsTidy z marks) e tidy) (subst (λ (z : Proc). Leaves z marks) e left)
+going_looks (Rows direction) from way state marks e tidy left = only_looks marks (subst (λ (z : Proc). IsTidy z marks) e tidy) (subst (λ (z : Proc). Leaves z marks) e left)
 
 -- it goes on whatever page it gets
 pub going_course : (s : Sought) (key : ℕ) (way : Descent) (c : Page) (state : Proc) → state ≡ going s key way → GoesOn state (seen.Words c)

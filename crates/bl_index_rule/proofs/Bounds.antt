@@ -29,13 +29,13 @@ use Rattle.bl_proc_invariant.proofs.Starting.{enters_good}
 use Rattle.bl_proc_invariant.proofs.Logged.{early_log}
 use Rattle.bl_proc_invariant.proofs.Middles.{KeepsLogs}
 use Rattle.bl_proc_invariant.proofs.GivingUp.{given_up, give_up}
-use Rattle.bl_proc_bounds.specs.Searches.{IsSearch}
-use Rattle.bl_claims.specs.Latches.{OnlyLooks}
-use Rattle.bl_claims.specs.Meanings.{writes_of}
-use Rattle.bl_proc_invariant.proofs.Looking.{looking_on, only_looks}
+use Rattle.bl_proc_bounds.specs.Latches.{IsTidy}
+use Rattle.bl_claims.specs.Meanings.{writes_in, writes_of, RaisesOnly}
+use Rattle.bl_tree_worlds.proofs.Meant.{wrote_still}
+use Rattle.bl_proc_invariant.proofs.Looking.{looking_on}
 use Rattle.bl_proc_bounds.specs.Paces.{AllKept}
 use Rattle.bl_proc_bounds.proofs.Turns.{state_kept}
-use Rattle.bl_proc_bounds.proofs.Latching.{none_up}
+use Rattle.bl_proc_bounds.proofs.Latching.{tidy_same}
 use Rattle.bl_proc_bounds.proofs.Kept.{left_kept, enter_kept}
 use Rattle.bl_proc_deterministic.specs.Courses.{GoesOn}
 use Rattle.bl_layout.specs.declared.layout.Layout.{Layout}
@@ -43,7 +43,7 @@ use Rattle.bl_store_rule.specs.Pages.{Held, Stage, Idle, Running, Pages, Stands,
 use Rattle.bl_index_rule.specs.declared.known.PassState.{PassState}
 use Rattle.bl_claims.specs.Seeing.{own, name}
 use Rattle.bl_index_rule.specs.Simulation.{owner_in, IsAtStage, IsHand, Simulates}
-use Rattle.bl_index_rule.specs.Observed.{MayGiveUp, IsUnborn, Notes, Finishes, begins, ends, relays, gives_up}
+use Rattle.bl_index_rule.specs.Observed.{MayGiveUp, Leaves, IsUnborn, Notes, Finishes, begins, ends, relays, gives_up}
 use Rattle.bl_index_rule.proofs.Entries.{own-mine}
 use Rattle.bl_index_rule.proofs.Marks.{each_append, no_marks}
 use Rattle.bl_index_rule.proofs.Stages.{pass_of, number_of, turn_mark}
@@ -266,11 +266,16 @@ relays_process l n d process ended done next unborn course s since f o at =
 end_latches : (x : ℕ) → ◌≢◌ {A = Act Page Reply} (Act.End None) (Act.Latch x)
 end_latches x e = cc
 
--- a search has written nothing
-search_writes : (a : Proc) → IsSearch a → (marks : Trail) → proc_log a marks → writes_of marks ≡ []
-search_writes (proc.Find a) search marks log = log
-search_writes (proc.Part a) search marks log = log
-search_writes old search marks log = absurd search
+-- it leaves no more by an event that writes nothing
+leaves_on : (a : Proc) (marks : Trail) (m : Mark) → writes_in m.event.act ≡ [] → Leaves a marks → Leaves a (marks ++ m ∷ [])
+leaves_on (proc.Find a) marks m quiet h = looking_on marks m quiet h
+leaves_on (proc.Write a) marks m quiet h = looking_on marks m quiet h
+leaves_on (proc.Post a) marks m quiet h = wrote_still marks m (RaisesOnly a.level) quiet h
+leaves_on (proc.Part a) marks m quiet h = looking_on marks m quiet h
+leaves_on (proc.Compress a) marks m quiet h = looking_on marks m quiet h
+leaves_on (proc.Reclaim a) marks m quiet h = looking_on marks m quiet h
+leaves_on (proc.Lower a) marks m quiet h = looking_on marks m quiet h
+leaves_on (proc.InsertPost a) marks m quiet h = looking_on marks m quiet h
 
 pub gives_up_process : (l : Layout) (n : ℕ) (d : PassState) → MayGiveUp d.state → Ends Simulates l n d gives_up
 gives_up_process l n d may s since f o at =
@@ -282,11 +287,10 @@ gives_up_process l n d may s since f o at =
     let does : Does w.now p (Act.End None) s1 = record { changes = (λ x. refl, λ x. refl, is_put_name p machine.Ended w.now.phase); on = omega arith } in
     let t : Turned know w p (Act.End None) s1 (given_up r) = give_up w p s1 f.good (may.busy r is) (may.silent r is) (may.empty r is) (may.no_middle r is) does in
     let named = is_named s f n since d at in
-    let search : IsSearch r.state = subst IsSearch (sym is) may.search in
-    let z = finishes l n d s since f o at None _ t (left_kept w t.next _ (given_up r) _ t.extends f.good t.good refl refl search end_latches f.kept) in
+    let z = finishes l n d s since f o at None _ t (left_kept w t.next _ (given_up r) t.extends f.good t.good refl (may.busy r is) end_latches f.kept) in
     let mk = turn_mark w f.good n d.number (Act.End None) s1 (given_up r) t in
-    let log : proc_log r.state (marks_of p w.trail) = subst (λ (z : Proc). proc_log z (marks_of p w.trail)) (sym is) (standing s f n since d at).5 in
-    let quiet = looking_on (marks_of p w.trail) mk refl (search_writes r.state search (marks_of p w.trail) log) in
-    let looks : OnlyLooks (marks_of p w.trail ++ mk ∷ []) = only_looks (marks_of p w.trail ++ mk ∷ []) (none_up w p r.state mk f.kept.tidy refl search end_latches) quiet in
+    let tidy : IsTidy d.state (marks_of p w.trail ++ mk ∷ []) = tidy_same w p d.state mk f.good f.kept.owned f.kept.tidy is end_latches in
+    let left : Leaves d.state (marks_of p w.trail ++ mk ∷ []) = leaves_on d.state (marks_of p w.trail) mk refl (may.leaves (marks_of p w.trail) (standing s f n since d at).5) in
     let marks : marks_of p z.1.trail ≡ marks_of p w.trail ++ mk ∷ [] = ap (marks_of p) (z.4 ∙ t.extends.trail) ∙ marks_of-own p w.trail mk refl in
-    (z.0, z.1, z.2, (z.3, subst (λ (q : Name). OnlyLooks (marks_of q z.1.trail)) (λ i. name (sym named.0 i) d.number) (subst OnlyLooks (sym marks) looks)))
+    let mine : (Is : Trail → Type 0) → Is (marks_of p w.trail ++ mk ∷ []) → Is (marks_of (name d.pass d.number) z.1.trail) = λ Is h. subst (λ (q : Name). Is (marks_of q z.1.trail)) (λ i. name (sym named.0 i) d.number) (subst Is (sym marks) h) in
+    (z.0, z.1, z.2, record { finishes = z.3; tidy = mine (IsTidy d.state) tidy; leaves = mine (Leaves d.state) left })

@@ -10,6 +10,9 @@ pub mod Shown
 pub mod Runners
 pub mod Turns
 pub mod Pages
+pub mod Openings
+pub mod OffWalk
+pub mod OffTop
 pub mod Bounds
 pub mod Releasing
 pub mod Starts

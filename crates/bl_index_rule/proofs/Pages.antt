@@ -51,7 +51,7 @@ firm_trail s f n st d at =
     }
 
 -- an event that puts no page
-as_often : (s : Pages PassState) (f : Simulates s) (x version more : ℕ) → HasVersion s x version → more ≡ 0 → version ≡ puts_at x f.world.trail + more
+pub as_often : (s : Pages PassState) (f : Simulates s) (x version more : ℕ) → HasVersion s x version → more ≡ 0 → version ≡ puts_at x f.world.trail + more
 as_often s f x version more e quiet = let was = f.versions x version e in omega arith
 
 -- an event that leaves all pages and owners as they are
@@ -67,35 +67,48 @@ unmoved s f n since d at what c a next said shown does quiet may = (
       ap (puts_at x) t.extends.trail ∙ omega (arith, none, more),
 )
 
+either_page : (y x : ℕ) → (y ≡ x) ⊎ (y ≢ x)
+either_page zero zero = inl refl
+either_page zero (suc x) = inr (λ e. omega arith)
+either_page (suc y) zero = inr (λ e. omega arith)
+either_page (suc y) (suc x) = ⊎_elim (λ e. inl (ap suc e)) (λ ne. inr (λ e. ne (omega arith))) (either_page y x)
+
+-- page x gets another owner
+module _ (owner : ℕ → machine.Owner) (x : ℕ) (o' : machine.Owner) where
+  -- who does not get it holds what it held
+  pub kept_owner : {q : Name} → o' ≢ machine.Held q → (y : ℕ) → put_at x o' owner y ≡ machine.Held q → owner y ≡ machine.Held q
+  kept_owner {q} else y e =
+      let put = is_put_at x o' owner in
+      ⊎_elim
+      (λ (z : y ≡ x). absurd (else (sym put.at ∙ (ap (put_at x o' owner) (sym z) ∙ e))))
+      (λ (z : y ≢ x). sym (put.others y z) ∙ e)
+      (either_page y x)
+
+  -- the store shows that owner
+  pub shown_owner : (owners : List Owner) (hands : List (Stage × PassState)) (o : Owner) → o' ≡ owner_in hands o → ((y : ℕ) (p : Owner) → get_elem? owners y ≡ some p → owner y ≡ owner_in hands p) → (y : ℕ) (p : Owner) → get_elem? (set owners x o) y ≡ some p → put_at x o' owner y ≡ owner_in hands p
+  shown_owner owners hands o is shown y p e =
+      let put = is_put_at x o' owner in
+      ⊎_elim
+      (λ (z : (y ≡ x) × (o ≡ p)). ap (put_at x o' owner) z.0 ∙ (put.at ∙ (is ∙ ap (owner_in hands) z.1)))
+      (λ (z : (y ≢ x) × (get_elem? owners y ≡ some p)). put.others y z.0 ∙ shown y p z.1)
+      (at_set owners x y o p e)
+
 -- an event by which a page gets another owner, and the time may pass
 moved_by : (s : Pages PassState) (f : Simulates s) (n since : ℕ) (d : PassState) → Stands s n (Running since) d → (what : Seen) → GoesOn d.state what → (a : Action) → next_of d.state ≡ a → (x : ℕ) (was o : Owner) → get_elem? s.owners x ≡ some was → (o' : machine.Owner) → o' ≡ owner_in s.hands o → ((q : Name) → q ≢ name n d.number → o' ≢ machine.Held q) → (time then : ℕ) → time ≤ then → IsObserved f.world.now f.world.size a what → IsShown f.world.now (name n d.number) (f.world.proc (name n d.number)).time a what
     → Does f.world.now (name n d.number) (event_of (end_of_proc d.state) a what) (record f.world.now { owner = put_at x o' f.world.now.owner; clock = time })
     → ((y : ℕ) → put_of y (event_of (end_of_proc d.state) a what) ≡ 0) → ((y : ℕ) → event_of (end_of_proc d.state) a what ≡ Act.Get y → (y ≡ 0) ⊎ MayGet f.world (name n d.number) y)
     → (e : PassState) × Simulates (observed (record (owned s x o) { clock = then }) n (Running since) e) × Goes what d e
 moved_by s f n since d at what c a next x was o here o' is else time then le said shown does quiet may =
-    let s1 : State Page = record f.world.now { owner = put_at x o' f.world.now.owner; clock = time } in
-    let put = is_put_at x o' f.world.now.owner in (
+    let s1 : State Page = record f.world.now { owner = put_at x o' f.world.now.owner; clock = time } in (
       then_known s f n since d at what c a next s1 said shown does,
       then_fits s f n since d at what c a next s1 said shown does (record (owned s x o) { clock = then }) refl refl le (λ q. refl)
-          (λ y q ne e. ⊎_elim
-          (λ (z : y ≡ x). absurd (else q ne (sym put.at ∙ (ap (put_at x o' f.world.now.owner) (sym z) ∙ e))))
-          (λ (z : y ≢ x). sym (put.others y z) ∙ e)
-          (either_page y x))
+          (λ y q ne e. kept_owner f.world.now.owner x o' (else q ne) y e)
           f.pages
-          (λ y p e. ⊎_elim
-          (λ (z : (y ≡ x) × (o ≡ p)). ap (put_at x o' f.world.now.owner) z.0 ∙ (put.at ∙ (is ∙ ap (owner_in s.hands) z.1)))
-          (λ (z : (y ≢ x) × (get_elem? s.owners y ≡ some p)). put.others y z.0 ∙ f.owners y p z.1)
-          (at_set s.owners x y o p e))
+          (λ y p e. shown_owner f.world.now.owner x o' s.owners s.hands o is f.owners y p e)
           (λ y version e. as_often s f y version (put_of y (event_of (end_of_proc d.state) a what)) e (quiet y))
           may,
       then_goes s f n since d at what c a next s1 said shown does,
     )
-  where
-    either_page : (y x : ℕ) → (y ≡ x) ⊎ (y ≢ x)
-    either_page zero zero = inl refl
-    either_page zero (suc x) = inr (λ e. omega arith)
-    either_page (suc y) zero = inr (λ e. omega arith)
-    either_page (suc y) (suc x) = ⊎_elim (λ e. inl (ap suc e)) (λ ne. inr (λ e. ne (omega arith))) (either_page y x)
 
 moved : (s : Pages PassState) (f : Simulates s) (n since : ℕ) (d : PassState) → Stands s n (Running since) d → (what : Seen) → GoesOn d.state what → (a : Action) → next_of d.state ≡ a → (x : ℕ) (was o : Owner) → get_elem? s.owners x ≡ some was → (o' : machine.Owner) → o' ≡ owner_in s.hands o → ((q : Name) → q ≢ name n d.number → o' ≢ machine.Held q) → IsObserved f.world.now f.world.size a what → IsShown f.world.now (name n d.number) (f.world.proc (name n d.number)).time a what
     → Does f.world.now (name n d.number) (event_of (end_of_proc d.state) a what) (record f.world.now { owner = put_at x o' f.world.now.owner })
@@ -104,7 +117,7 @@ moved : (s : Pages PassState) (f : Simulates s) (n since : ℕ) (d : PassState) 
 moved s f n since d at what c a next x was o here o' is else said shown does quiet may = moved_by s f n since d at what c a next x was o here o' is else f.world.now.clock s.clock f.clock said shown does quiet may
 
 -- where the hand runs its process
-running : (R : Stage → Type 0) (s : Pages PassState) (f : Simulates s) (n : ℕ) (st : Stage) (d : PassState) → d.runs ≡ true → Stands s n st d → ((since : ℕ) → Stands s n (Running since) d → R (Running since)) → R st
+pub running : (R : Stage → Type 0) (s : Pages PassState) (f : Simulates s) (n : ℕ) (st : Stage) (d : PassState) → d.runs ≡ true → Stands s n st d → ((since : ℕ) → Stands s n (Running since) d → R (Running since)) → R st
 running R s f n st d runs at go =
     let r = runs_on s f n st d at runs in
     subst R (sym r.1) (go r.0 (subst (λ (z : Stage). Stands s n z d) r.1 at))

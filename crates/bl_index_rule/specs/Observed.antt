@@ -9,14 +9,17 @@ use Rattle.bl_proc_steps.specs.declared.acts.Action.{Action}
 use Rattle.bl_proc_steps.specs.declared.acts.Action.TheVariants as action
 use Rattle.bl_proc_steps.specs.declared.acts.Seen.{Seen}
 use Rattle.bl_proc_steps.specs.declared.acts.Seen.TheVariants as seen
+use Rattle.bl_proc_steps.specs.declared.lowering.Summit.{Summit}
 use Rattle.bl_proc.specs.declared.kinds.Proc.{Proc}
+use Rattle.bl_proc.specs.declared.kinds.Proc.TheVariants as proc
 use Rattle.bl_proc.specs.Processes.{next_of}
 use Rattle.bl_proc_invariant.specs.Logs.{proc_log}
+use Rattle.bl_proc_invariant.specs.Walks.{LeavesWalk, looking, at_summit}
 use Rattle.bl_proc_invariant.specs.Turns.{event_of}
 use Rattle.bl_proc_invariant.specs.Knowing.{Run, know, end_of_proc}
 use Rattle.bl_claims.specs.Bounds.{IsWithinBound, IsBelowBound}
 use Rattle.bl_proc_bounds.specs.Searches.{IsSearch, IsUnderWay}
-use Rattle.bl_claims.specs.Latches.{OnlyLooks}
+use Rattle.bl_claims.specs.Meanings.{writes_of, HasRaised}
 use Rattle.bl_proc_bounds.specs.Latches.{IsTidy}
 use Rattle.bl_tree_worlds.specs.Worlds.{Stage}
 use Rattle.bl_claims.specs.Walks.{Each}
@@ -93,6 +96,23 @@ puts d x owner words e = Goes seen.Done d e
 abbrev pub opens : PassState → ℕ → Owner → List ℕ → PassState → Type 0
 opens d x owner words e = Goes seen.Done d e
 
+-- The process was a post on its walk from that page, and has given that up and opened the page: it goes on as one that had been about to.
+abbrev pub HasLeftWalk : PassState → ℕ → PassState → Type 0
+HasLeftWalk d x e = (off : Proc) × LeavesWalk d.state off x × Goes seen.Done (record d { state = off }) e
+
+abbrev pub leaves_walk : PassState → ℕ → Owner → List ℕ → PassState → Type 0
+leaves_walk d x owner words e = HasLeftWalk d x e
+
+-- The process was a lowering that held the anchor and was to latch the top page. It has opened the anchor, and is to look at that again.
+pub record HasLeftTop (d e : PassState) : Type 0 where
+  pub top : Summit
+  pub was : d.state ≡ at_summit top
+  pub steps : Steps (Act.Open 0) d e
+  pub is : e.state ≡ looking
+
+abbrev pub leaves_top : PassState → ℕ → Owner → List ℕ → PassState → Type 0
+leaves_top d x owner words e = HasLeftTop d e
+
 abbrev pub takes : PassState → ℕ → Owner → List ℕ → PassState → Type 0
 takes d x owner words e = Goes (seen.Took x) d e
 
@@ -160,8 +180,25 @@ is_unput d x version = (before since : Trail) (get : Mark) → d.trail ≡ befor
 abbrev pub relays : ℕ → ℕ → ℕ → Proc → PassState → ℕ → PassState → Type 0
 relays pass pages passes process d now e = (between : PassState) × ends d now between × begins pass pages passes process between now e
 
+-- What a process may leave that gives up: it has written nothing, or new top levels alone where it is a post.
+abbrev pub Leaves : Proc → Trail → Type 0
+Leaves (proc.Find p) marks = writes_of marks ≡ []
+Leaves (proc.Write p) marks = writes_of marks ≡ []
+Leaves (proc.Post p) marks = HasRaised p.level marks
+Leaves (proc.Part p) marks = writes_of marks ≡ []
+Leaves (proc.Compress p) marks = writes_of marks ≡ []
+Leaves (proc.Reclaim p) marks = writes_of marks ≡ []
+Leaves (proc.Lower p) marks = writes_of marks ≡ []
+Leaves (proc.InsertPost p) marks = writes_of marks ≡ []
+
+-- The process has ended without an answer. It has held at its latches no more than its kind may, and leaves no more than it may.
+pub record GivesUp (d e : PassState) : Type 0 where
+  pub finishes : Finishes None d e
+  pub tidy : IsTidy d.state (marks_of (name d.pass d.number) e.trail)
+  pub leaves : Leaves d.state (marks_of (name d.pass d.number) e.trail)
+
 abbrev pub gives_up : PassState → ℕ → PassState → Type 0
-gives_up d now e = Finishes None d e × OnlyLooks (marks_of (name d.pass d.number) e.trail)
+gives_up d now e = GivesUp d e
 
 -- p released a page there, and said nothing
 abbrev pub IsRelease : Name → Mark → Type 0
@@ -186,13 +223,13 @@ pub record ReleasesPages (by count among released : ℕ) (d e : PassState) : Typ
 abbrev pub sweeps : ℕ → ℕ → ℕ → PassState → ℕ → PassState → Type 0
 sweeps by count among d released e = ((e ≡ d) × (released ≡ 0)) ⊎ ReleasesPages by count among released d e
 
--- a search that may end at once: it runs, has said nothing, and holds nothing
+-- a process that may end at once: it runs, has said nothing, holds nothing, and leaves no more than one may that gives up
 pub record MayGiveUp (state : Proc) : Type 0 where
-  pub search : IsSearch state
   pub busy : (r : Run) → r.state ≡ state → (know r).stage ≡ Stage.Busy
   pub silent : (r : Run) → r.state ≡ state → (know r).said ≡ None
   pub empty : (r : Run) → r.state ≡ state → (know r).holds ≡ []
   pub no_middle : (r : Run) → r.state ≡ state → (know r).middle ≡ None
+  pub leaves : (marks : Trail) → proc_log state marks → Leaves state marks
 
 -- a process that is to begin, and has nothing
 abbrev pub IsUnborn : Proc → Type 0

@@ -1,7 +1,7 @@
 //! What each event tells the pass that makes it.
 
 ghost use Rattle.std.specs.Prelude.{ℕ};
-ghost use Rattle.bl_index_rule.specs.Observed.{begins, ends, gives_up, gets, gets_kept, is_unput, puts, relays, takes, tries, probes, opens, retires, refuses, sweeps};
+ghost use Rattle.bl_index_rule.specs.Observed.{begins, ends, gives_up, gets, gets_kept, is_unput, puts, relays, takes, tries, probes, opens, leaves_walk, leaves_top, retires, refuses, sweeps};
 
 use crate::known::PassState;
 use bl_store_rule::{KeepPlay, PagePlay, SweepPlay, TellPlay, TimePlay};
@@ -48,7 +48,7 @@ impl TimePlay<PassState> for Ended {
     ghost then = { ends };
 }
 
-/// A search ends and has answered nothing.
+/// A process ends that holds no page, and has answered nothing.
 pub struct GaveUp;
 
 impl TimePlay<PassState> for GaveUp {
@@ -118,6 +118,20 @@ pub struct Opened;
 
 impl PagePlay<PassState> for Opened {
     ghost then = { opens };
+}
+
+/// A post has given up its walk, and has opened its parent.
+pub struct LeftWalk;
+
+impl PagePlay<PassState> for LeftWalk {
+    ghost then = { leaves_walk };
+}
+
+/// A lowering has opened the anchor without the latch of the top page.
+pub struct LeftTop;
+
+impl PagePlay<PassState> for LeftTop {
+    ghost then = { leaves_top };
 }
 
 /// A page was retired.

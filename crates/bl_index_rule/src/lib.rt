@@ -13,8 +13,8 @@ mod known;
 mod rule;
 
 pub use events::{
-    Began, Ended, GaveUp, Got, GotKept, Launch, Opened, Probed, Put, Refused, Relayed, Retired,
-    Sweeper, Swept, Took, Tried, Unput,
+    Began, Ended, GaveUp, Got, GotKept, Launch, LeftTop, LeftWalk, Opened, Probed, Put, Refused,
+    Relayed, Retired, Sweeper, Swept, Took, Tried, Unput,
 };
 pub use known::{FirstPages, GhostTrail, PassState};
 pub use rule::Passes;

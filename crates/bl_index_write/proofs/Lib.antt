@@ -1,4 +1,6 @@
 pub mod Alone
+pub mod GivingUp
+pub mod OffWalk
 pub mod PostEnds
 pub mod Underway
 pub mod Climbs

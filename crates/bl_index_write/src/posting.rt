@@ -30,12 +30,12 @@ use bl_index_events::{FrameView, Tree};
 use bl_index_rule::PassState;
 use bl_proc::{Answer, Hint, Posted, Process, Reader};
 use bl_proc_steps::{Approach, Level};
-use bl_proc_writes::{Post, PostReply, PostStage, Walk};
+use bl_proc_writes::{Post, PostReply, PostStage};
 use bl_store::{Glance, Hand};
 use std::sync::Wait;
 
-/// How many pages a post gets at most on its walk from a parent that it holds to the child, before it goes on as a value. Until then it has
-/// made no more than 64 events while it held that: the parent's own get is one, and a parent that is split takes five.
+/// How many pages a post that may not wait gets at most on its walk from a parent that it holds to the child, before it opens that. Until
+/// then it has made no more than 64 events while it held the parent: that one's own get is one, and a parent that is split takes five.
 const WALK: u32 = 58;
 
 /// What became of a post, and its hint.
@@ -96,18 +96,6 @@ fn on_way(target: Posting, way: Approach) -> Post
         level: target.level,
         key: target.key,
         stage: PostStage::Coming(way),
-    }
-}
-
-/// A post that is on that walk from its parent to its child.
-fn on_walk(target: Posting, walk: Walk) -> Post
-    requires { target.level < 12 }
-    ensures { (below : target.level < 12) → proc.Post result ≡ posting target (post.Walking walk) below }
-{
-    Post {
-        level: target.level,
-        key: target.key,
-        stage: PostStage::Walking(walk),
     }
 }
 
@@ -230,13 +218,16 @@ fn post_at(
     match post_there_within(tree, hand, &target, at, glance, WALK) {
         Ok(Some(reply)) => Ok(end_post(tree, hand, target, reply)),
         Ok(None) => Err(on_way(target, Approach::Start)),
-        Err(walk) => Err(on_walk(target, walk)),
+        Err(_far) => {
+            tree.leave_walk(hand, at);
+            Err(on_way(target, Approach::Start))
+        }
     }
 }
 
 /// Carries a post out, from its begin to its end, unless it would wait. Where it gives up on its way to the parent, after so many turns at
 /// most, where its walk from there to the child is long, and where the tree has no such level, it is underway, as the value that it
-/// gives: it holds no page, or the parent on such a walk.
+/// gives, and holds no page.
 pub fn post_within(
     tree: &Tree,
     hand: &mut Hand<PassState>,

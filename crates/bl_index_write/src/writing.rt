@@ -1,6 +1,6 @@
 //! Writes of one key, by the words of pages: a leaf that is not split gets its new words from those that were read.
 
-ghost use Rattle.std.specs.Prelude.{◌≡◌, ℕ, IfOk, IfErr};
+ghost use Rattle.std.specs.Prelude.{◌≡◌, ℕ, IfOk, IfErr, IfSome, IfNone};
 ghost use Rattle.bl_model.specs.declared.operation.KeyReply.TheVariants as replies;
 ghost use Rattle.bl_model.specs.Replies.{reply_of};
 ghost use Rattle.bl_answers.specs.declared.answers.Answer.TheVariants as answers;
@@ -11,6 +11,7 @@ ghost use Rattle.bl_proc_writes.specs.Writes.{write_answer};
 ghost use Rattle.bl_store.specs.Hands.{known, read_words, IsIdle, IsSameHand, HasNoStock, ReadsFrom};
 ghost use Rattle.bl_store.specs.Owners.{IsHandOf};
 ghost use Rattle.bl_index_rule.specs.declared.known.PassState.{PassState as Knows};
+ghost use Rattle.bl_index_events.specs.Answered.{Undone, WritesNothing};
 ghost use Rattle.bl_index_events.specs.Rooms.{LacksWrite};
 ghost use Rattle.bl_index_events.specs.Runs.{Runs, Rests, IsSince};
 ghost use Rattle.bl_index_descend.specs.Events.{IsThere, HoldsNone};
@@ -136,5 +137,32 @@ pub fn write_within(
     match descend_within(tree, hand, &target, &mut (), turns) {
         Ok((at, glance)) => Ok(end_write(tree, hand, at, key, write, glance)),
         Err(way) => Err(way),
+    }
+}
+
+/// Carries a write out, or gives up: it waits for nothing. None: it has not been done, and nothing of it is left.
+pub fn try_write(
+    tree: &Tree,
+    hand: &mut Hand<PassState>,
+    key: u64,
+    write: KeyWrite,
+    turns: u32,
+) -> Option<(KeyReply, Option<Hint>)>
+    requires own { IsHandOf tree.now.store hand.old }
+    requires idle { IsIdle hand.old.seat × HasNoStock hand.old.seat }
+    ensures same { IsSameHand hand.old.seat hand.new.seat }
+    ensures rests { Rests hand.new.seat }
+    ensures empty { HasNoStock hand.new.seat }
+    ensures wrote { IfSome result (λ said.
+        HasWritten hand.old.number (known hand.old.seat) (known hand.new.seat) key write (answers.Op (reply_of said.0) said.1)) }
+    ensures no_room { IfSome result (λ said. said.0 ≡ replies.NoRoom → LacksWrite key write hand.new.seat) }
+    ensures undone { IfNone result (Undone WritesNothing hand.old.number (known hand.old.seat) (known hand.new.seat)) }
+{
+    match write_within(tree, hand, key, write, turns) {
+        Ok(said) => Some(said),
+        Err(_way) => {
+            tree.give_up(hand);
+            None
+        }
     }
 }

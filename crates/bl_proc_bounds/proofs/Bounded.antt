@@ -16,6 +16,9 @@ use Rattle.bl_proc.specs.declared.kinds.Proc.{Proc}
 use Rattle.bl_proc.specs.declared.kinds.Proc.TheVariants as proc
 use Rattle.bl_proc_invariant.specs.Knowing.{Run, know_find, know_part, know_of, know}
 use Rattle.bl_proc_invariant.proofs.Instead.{with_proc}
+use Rattle.bl_proc_invariant.proofs.OffWalk.{off_run}
+use Rattle.bl_proc_writes.specs.declared.walking.Walk.{Walk}
+use Rattle.bl_proc_writes.specs.declared.post.Post.{Post}
 use Rattle.bl_claims.specs.Bounds.{gets_in, puts_in, IsWithinBound, IsBelowBound}
 use Rattle.bl_proc_bounds.specs.Searches.{IsSearch, IsGoing, IsUnderWay}
 use Rattle.bl_proc_bounds.proofs.Counts.{own_gets_own, within_none}
@@ -73,6 +76,13 @@ pub enter_paced : (w : World Run) (p : Name) (b : Run) → (know b).stage ≡ St
 enter_paced w p b e all q = elim (name_cases q p) [
   | inl i ↦ subst (λ (r : Run). IsKept w.size w.now.contents w.trail q (sought r.state) (place_of r.state)) (sym (ap (with_proc w p b).proc i ∙ (is_put_name p b w.proc).at)) (early w.size w.now.contents w.trail q b e)
   | inr n ↦ subst (λ (r : Run). IsKept w.size w.now.contents w.trail q (sought r.state) (place_of r.state)) (sym ((is_put_name p b w.proc).others q n)) (all q)
+]
+
+-- a world in which a post has given up its walk: it searches nowhere
+pub off_paced : (w : World Run) (p : Name) (a : Post) (v : Walk) → AllPaced w → AllPaced (with_proc w p (off_run (w.proc p) a v))
+off_paced w p a v all q = elim (name_cases q p) [
+  | inl i ↦ subst (λ (r : Run). IsKept w.size w.now.contents w.trail q (sought r.state) (place_of r.state)) (sym (ap (with_proc w p (off_run (w.proc p) a v)).proc i ∙ (is_put_name p (off_run (w.proc p) a v) w.proc).at)) tt
+  | inr n ↦ subst (λ (r : Run). IsKept w.size w.now.contents w.trail q (sought r.state) (place_of r.state)) (sym ((is_put_name p (off_run (w.proc p) a v) w.proc).others q n)) (all q)
 ]
 
 -- What they say

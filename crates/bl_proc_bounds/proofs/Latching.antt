@@ -7,7 +7,7 @@ use Rattle.bl_page.specs.Machine.{Name}
 use Rattle.bl_page.specs.Machine.Act.{Latch}
 use Rattle.bl_claims.specs.Trails.{Mark, Trail, marks_of}
 use Rattle.bl_tree_worlds.proofs.Pushes.{name_cases, marks_of-own, marks_of-other}
-use Rattle.bl_tree_worlds.specs.Worlds.{Goes, Know, World, HoldsPage, IsGood, Extends}
+use Rattle.bl_tree_worlds.specs.Worlds.{Goes, Know, Stage, World, HoldsPage, IsGood, Extends}
 use Rattle.bl_proc_steps.specs.declared.acts.Action.{Action}
 use Rattle.bl_proc_steps.specs.declared.acts.Action.TheVariants as act
 use Rattle.bl_proc_steps.specs.declared.acts.Seen.{Seen}
@@ -36,12 +36,13 @@ use Rattle.bl_proc.specs.declared.parts.PartStage.{PartStage}
 use Rattle.bl_proc.specs.declared.parts.PartStage.TheVariants as part
 use Rattle.bl_proc_writes.specs.declared.writing.WriteStage.{WriteStage}
 use Rattle.bl_proc_writes.specs.declared.writing.WriteStage.TheVariants as write
-use Rattle.bl_proc_writes.specs.declared.post.Post.{Post}
 use Rattle.bl_proc_writes.specs.declared.post.PostStage.{PostStage}
 use Rattle.bl_proc_writes.specs.declared.post.PostStage.TheVariants as post
 use Rattle.bl_proc_steps.specs.declared.lowering.Lowering.{Lowering}
 use Rattle.bl_proc_steps.specs.declared.lowering.Lowering.TheVariants.{LatchingAnchor, LatchingTop}
 use Rattle.bl_proc_steps.specs.Lowerings.{lowering_next}
+use Rattle.bl_proc.specs.declared.reclaiming.ReclaimStage.{ReclaimStage}
+use Rattle.bl_proc.specs.declared.reclaiming.ReclaimStage.TheVariants as reclaim
 use Rattle.bl_proc.specs.declared.lowering.LowerStage.{LowerStage}
 use Rattle.bl_proc.specs.declared.lowering.LowerStage.TheVariants as lower
 use Rattle.bl_proc.specs.Lowers.{lower_next_in}
@@ -61,10 +62,13 @@ use Rattle.bl_proc_invariant.specs.Tables.{Carried, unsaid, alone, know_approach
 use Rattle.bl_proc_invariant.specs.Logs.{compression_log, compress_log, proc_log}
 use Rattle.bl_proc_invariant.specs.Compressing.{know_compression}
 use Rattle.bl_proc_invariant.specs.Lowering.{know_lowering}
-use Rattle.bl_proc_invariant.specs.Knowing.{Run, path_goes, inserted, know_growth, know_write, know_post, know_climb, know_compress, know_lower, know_of, know, end_of_proc}
+use Rattle.bl_proc_invariant.specs.Knowing.{Run, path_goes, inserted, know_growth, know_write, know_post, know_climb, know_compress, know_reclaim, know_lower, know_of, know, end_of_proc}
 use Rattle.bl_tree_worlds.proofs.After.{is_put_name}
 use Rattle.bl_proc_invariant.proofs.Instead.{with_proc}
-use Rattle.bl_proc_bounds.specs.Searches.{IsSearch}
+use Rattle.bl_proc_invariant.proofs.GivingUp.{left_of}
+use Rattle.bl_proc_invariant.proofs.OffWalk.{off_run}
+use Rattle.bl_proc_writes.specs.declared.walking.Walk.{Walk}
+use Rattle.bl_proc_writes.specs.declared.post.Post.{Post}
 use Rattle.bl_claims.specs.Latches.{KeepsPage, LatchesNone, LatchesAlone, LatchesBelowAnchor}
 use Rattle.bl_claims.specs.Families.{HoldsFamily, LatchesBeside}
 use Rattle.bl_proc_bounds.specs.Latches.{IsTidy, AllOwned, AllTidy}
@@ -280,24 +284,38 @@ tidy_turn w w' m b what e g owned log t does all =
 pub tidy_still : (w w' : World Run) (m : Mark) → Extends w w' m (w.proc m.event.process) → IsGood know w → AllOwned w → ((x : ℕ) → m.event.act ≢ Latch x) → AllTidy w → AllTidy w'
 tidy_still w w' m e g owned none all = tidy_on w w' m (w.proc m.event.process) e (λ p i. subst (λ q. IsTidy (w.proc m.event.process).state (marks_of q w.trail ++ m ∷ [])) (sym i) (still_turn w m.event.process g owned m (w.proc m.event.process).state none (all m.event.process))) all
 
+-- An act by which nothing is latched leaves the process of that state as it may be.
+pub tidy_same : (w : World Run) (p : Name) (state : Proc) (m : Mark) → IsGood know w → AllOwned w → AllTidy w → (w.proc p).state ≡ state → ((x : ℕ) → m.event.act ≢ Latch x) → IsTidy state (marks_of p w.trail ++ m ∷ [])
+tidy_same w p state m g owned all is none = still_turn w p g owned m state none (subst (λ z. IsTidy z (marks_of p w.trail)) is (all p))
+
 -- Who latches none latches alone.
 none_alone : (marks : Trail) → LatchesNone marks → LatchesAlone marks
 none_alone marks h i m x y is does keeps = h i m x is does
 
-search_none : (a : Proc) (marks : Trail) → IsSearch a → IsTidy a marks → LatchesNone marks
-search_none (proc.Find a) marks s h = h
-search_none (proc.Part a) marks s h = h
-search_none old marks s h = absurd s
+-- a release never runs
+never_busy : (time : ℕ) (a : ReclaimStage) → (know_reclaim time a).stage ≢ Stage.Busy
+never_busy time reclaim.Seeing e = cc
+never_busy time (reclaim.Looking r) e = cc
+never_busy time reclaim.Releasing e = cc
+never_busy time (reclaim.Over what) e = cc
 
--- A search that gives up has latched nothing, and is then a post that is over.
-pub none_up : (w : World Run) (p : Name) (state : Proc) (m : Mark) → AllTidy w → (w.proc p).state ≡ state → IsSearch state → ((x : ℕ) → m.event.act ≢ Latch x) → LatchesNone (marks_of p w.trail ++ m ∷ [])
-none_up w p state m all is search none = none_on (marks_of p w.trail) m (search_none state (marks_of p w.trail) search (subst (λ z. IsTidy z (marks_of p w.trail)) is (all p))) none
+-- What stands for a process that has given up may have latched what that has.
+pub left_tidy : (got : ℕ → Page) (child time : ℕ) (a : Proc) (marks : Trail) → (know_of got child time a).stage ≡ Stage.Busy → IsTidy a marks → IsTidy (left_of a) marks
+left_tidy got child time (proc.Find a) marks busy h = none_alone marks h
+left_tidy got child time (proc.Write a) marks busy h = h
+left_tidy got child time (proc.Post a) marks busy h = h
+left_tidy got child time (proc.Part a) marks busy h = none_alone marks h
+left_tidy got child time (proc.Compress a) marks busy h = h
+left_tidy got child time (proc.Reclaim a) marks busy h = absurd (never_busy time a.stage busy)
+left_tidy got child time (proc.Lower a) marks busy h = h
+left_tidy got child time (proc.InsertPost a) marks busy h = h
 
-pub tidy_left : (w w' : World Run) (m : Mark) (b : Run) (post : Post) → Extends w w' m b → b.state ≡ proc.Post post → IsSearch (w.proc m.event.process).state → ((x : ℕ) → m.event.act ≢ Latch x) → AllTidy w → AllTidy w'
-tidy_left w w' m b post e is search none all =
-    let marks : Trail = marks_of m.event.process w.trail ++ m ∷ [] in
-    let alone : LatchesAlone marks = none_alone marks (none_up w m.event.process (w.proc m.event.process).state m all refl search none) in
-    tidy_on w w' m b e (λ p i. subst (λ q. IsTidy b.state (marks_of q w.trail ++ m ∷ [])) (sym i) (subst (λ z. IsTidy z marks) (sym is) alone)) all
+-- An act by which the process latches nothing, and then is one that may have latched what it has.
+pub tidy_to : (w w' : World Run) (m : Mark) (b : Run) → Extends w w' m b → IsGood know w → AllOwned w → ((marks : Trail) → IsTidy (w.proc m.event.process).state marks → IsTidy b.state marks) → ((x : ℕ) → m.event.act ≢ Latch x) → AllTidy w → AllTidy w'
+tidy_to w w' m b e g owned means none all =
+    let old : Proc = (w.proc m.event.process).state in
+    let then : IsTidy b.state (marks_of m.event.process w.trail ++ m ∷ []) = means (marks_of m.event.process w.trail ++ m ∷ []) (tidy_same w m.event.process old m g owned all refl none) in
+    tidy_on w w' m b e (λ p i. subst (λ q. IsTidy b.state (marks_of q w.trail ++ m ∷ [])) (sym i) then) all
 
 -- A process that has done nothing yet
 
@@ -319,6 +337,15 @@ pub tidy_enter : (w : World Run) (p : Name) (b : Run) → marks_of p w.trail ≡
 tidy_enter w p b none all q = elim (name_cases q p) [
   | inl i ↦ subst (λ (r : Run). IsTidy r.state (marks_of q w.trail)) (sym (ap (with_proc w p b).proc i ∙ (is_put_name p b w.proc).at)) (nothing_done b.state (marks_of q w.trail) (ap (λ n. marks_of n w.trail) i ∙ none))
   | inr n ↦ subst (λ (r : Run). IsTidy r.state (marks_of q w.trail)) (sym ((is_put_name p b w.proc).others q n)) (all q)
+]
+
+-- a world in which a post has given up its walk
+pub off_tidy : (w : World Run) (p : Name) (a : Post) (v : Walk) → (w.proc p).state ≡ proc.Post a → AllTidy w → AllTidy (with_proc w p (off_run (w.proc p) a v))
+off_tidy w p a v is all q = elim (name_cases q p) [
+  | inl i ↦
+      let own : IsTidy (proc.Post a) (marks_of q w.trail) = subst (λ n. IsTidy (proc.Post a) (marks_of n w.trail)) (sym i) (subst (λ z. IsTidy z (marks_of p w.trail)) is (all p)) in
+      subst (λ (r : Run). IsTidy r.state (marks_of q w.trail)) (sym (ap (with_proc w p (off_run (w.proc p) a v)).proc i ∙ (is_put_name p (off_run (w.proc p) a v) w.proc).at)) own
+  | inr n ↦ subst (λ (r : Run). IsTidy r.state (marks_of q w.trail)) (sym ((is_put_name p (off_run (w.proc p) a v) w.proc).others q n)) (all q)
 ]
 
 -- A world in which nothing has happened.

@@ -31,8 +31,8 @@ same_sure w p q b k is = record {
     passed None h = h
     passed (Some s) h = h
 
-pub instead_good : {P : Type 0} (know : P → Know) (w : World P) (p : Name) (b : P) → IsGood know w → (know b).holds ≡ (know (w.proc p)).holds → ((m : Middle) → (know (w.proc p)).middle ≡ Some m → HoldsPage (know (w.proc p)).holds m.right → (know b).middle ≡ Some m) → IsSure w p (know b) → IsGood know (with_proc w p b)
-instead_good know w p b g holds middle own =
+pub instead_held : {P : Type 0} (know : P → Know) (w : World P) (p : Name) (b : P) → IsGood know w → ((x : ℕ) → HoldsPage (know (w.proc p)).holds x → HoldsPage (know b).holds x) → ((m : Middle) → (know (w.proc p)).middle ≡ Some m → HoldsPage (know (w.proc p)).holds m.right → (know b).middle ≡ Some m) → IsSure w p (know b) → IsGood know (with_proc w p b)
+instead_held know w p b g holds middle own =
     let put = is_put_name p b w.proc in
     record {
       tree = g.tree;
@@ -44,7 +44,7 @@ instead_good know w p b g holds middle own =
         held = λ x q o. elim (name_cases q p) [
           | inl e ↦
               let at : put_name p b w.proc q ≡ b = ap (put_name p b w.proc) e ∙ put.at in
-              rw at (subst (λ hs. HoldsPage hs x) (ap (λ n. (know (w.proc n)).holds) e ∙ sym holds) (g.owned.held x q o))
+              rw at (holds x (subst (λ n. HoldsPage (know (w.proc n)).holds x) e (g.owned.held x q o)))
           | inr n ↦ rw (put.others q n) (g.owned.held x q o)
         ];
         small = g.owned.small;
@@ -96,8 +96,11 @@ instead_good know w p b g holds middle own =
       ];
     }
 
+pub instead_good : {P : Type 0} (know : P → Know) (w : World P) (p : Name) (b : P) → IsGood know w → (know b).holds ≡ (know (w.proc p)).holds → ((m : Middle) → (know (w.proc p)).middle ≡ Some m → HoldsPage (know (w.proc p)).holds m.right → (know b).middle ≡ Some m) → IsSure w p (know b) → IsGood know (with_proc w p b)
+instead_good know w p b g holds middle own = instead_held know w p b g (λ x h. subst (λ hs. HoldsPage hs x) (sym holds) h) middle own
+
 -- A turn of the process that stands there instead is a turn of the one that stood there before.
-pub turned_instead : {P : Type 0} (know : P → Know) (w : World P) (p : Name) (a : Act Page Reply) (s : State Page) (old b : P) → Turned know (with_proc w p old) p a s b → Turned know w p a s b
+abbrev pub turned_instead : {P : Type 0} (know : P → Know) (w : World P) (p : Name) (a : Act Page Reply) (s : State Page) (old b : P) → Turned know (with_proc w p old) p a s b → Turned know w p a s b
 turned_instead know w p a s old b t = record {
   next = t.next;
   saw = t.saw;

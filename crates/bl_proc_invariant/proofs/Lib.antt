@@ -35,6 +35,8 @@ pub mod ByPages
 pub mod CompressAnswers
 pub mod Gets
 pub mod GivingUp
+pub mod OffWalk
+pub mod OffTop
 pub mod Releasing
 pub mod Compressing
 pub mod Coupling

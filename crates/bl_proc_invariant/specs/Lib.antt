@@ -6,3 +6,4 @@ pub mod LoweringLog
 pub mod Logs
 pub mod Knowing
 pub mod Beside
+pub mod Walks

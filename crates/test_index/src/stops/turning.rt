@@ -1,10 +1,11 @@
 //! Writes of one leaf on one thread: each ends as it starts, or goes on in turns and opens the leaf before it comes back.
 
 use crate::stops::begun::{hand_of, opened};
+use bl_index_compress::try_compress;
 use bl_index_resume::{Running, advance, start_write};
-use bl_index_write::{begin_write, end_write};
+use bl_index_write::{begin_write, end_write, try_write};
 use bl_model::{KeyReply, KeyWrite, Reply};
-use bl_proc::Answer;
+use bl_proc::{Answer, Squeezed};
 use std::test::Fail;
 
 // Each gets the anchor, and then latches the leaf. A write that came back then would hold it, and the other one would miss its latch.
@@ -72,5 +73,37 @@ fn a_write_gives_up_where_another_one_holds_its_leaf(rt: HostRuntime) -> Result<
     assert!(rt; inserted == (KeyReply::Inserted, None));
     let deleted = Some(Answer::Op(Reply::Deleted(50), None));
     assert!(rt; advance(tree, &mut other, &mut deletion, 256) == deleted);
+    Ok(())
+}
+
+// An insertion holds the leaf. A deletion is told that it has not been done, and nothing stays underway: it begins anew.
+#[test]
+fn a_write_that_may_not_wait_is_done_or_not(rt: HostRuntime) -> Result<(), Fail> {
+    let (index, first, second, _) = opened(rt.alloc()).ok_or("no index")?;
+    let tree = index.tree();
+    let mut one = hand_of(&index, first);
+    let mut other = hand_of(&index, second);
+    let insert = KeyWrite::Insert(50);
+    let (at, glance) = begin_write(tree, &rt, &mut one, 5, insert);
+    assert!(rt; try_write(tree, &mut other, 5, KeyWrite::Delete, 256).is_none());
+    let inserted = end_write(tree, &mut one, at, 5, insert, glance);
+    assert!(rt; inserted == (KeyReply::Inserted, None));
+    let deleted = try_write(tree, &mut other, 5, KeyWrite::Delete, 256);
+    assert!(rt; deleted == Some((KeyReply::Deleted(50), None)));
+    Ok(())
+}
+
+// The tree has one level: there is nothing to compress. A write that holds the only leaf is not in its way.
+#[test]
+fn a_compression_that_may_not_wait_is_alone_in_a_low_tree(rt: HostRuntime) -> Result<(), Fail> {
+    let (index, first, second, _) = opened(rt.alloc()).ok_or("no index")?;
+    let tree = index.tree();
+    let mut one = hand_of(&index, first);
+    let mut other = hand_of(&index, second);
+    let insert = KeyWrite::Insert(50);
+    let (at, glance) = begin_write(tree, &rt, &mut one, 5, insert);
+    assert!(rt; try_compress(tree, &mut other, 1, 5, 256) == Some((Squeezed::Alone, None)));
+    let inserted = end_write(tree, &mut one, at, 5, insert, glance);
+    assert!(rt; inserted == (KeyReply::Inserted, None));
     Ok(())
 }

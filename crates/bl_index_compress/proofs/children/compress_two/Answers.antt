@@ -1,49 +1,16 @@
-use Rattle.std.proofs.Common.{rules, refl, ap, ◌∙◌}
-use Rattle.bl_proc_steps.specs.declared.acts.Seen.TheVariants as seen
-use Rattle.bl_proc_compress.specs.declared.compression.Compression.TheVariants.{OpeningLeft, OpeningParent}
-use Rattle.bl_proc.specs.Processes.{next_of}
-use Rattle.bl_index_events.proofs.Rooms.{refused_on}
-use Rattle.bl_index_events.proofs.Standing.{on_goes, on_itself, same_all, same_goes}
-use Rattle.bl_index_compress.proofs.CompressionCourses.{opens_parent, compression_course, compression_runs, refused_answer, same_hands}
+use Rattle.bl_index_compress.proofs.CompressionCourses.{leaves_since}
 use Rattle.bl_index_compress.proofs.children.compress_two.Goals as goal
 
-pub reopen-requires-clause-runs : goal.reopen-requires-clause-runs
-reopen-requires-clause-runs g c = (let runs = c.latch_and_compress-decision.ensures.runs in record { own = runs.own; running = runs.running; on = on_itself _ _ _ runs.on })
+pub open_family-requires-clause-runs : goal.open_family-requires-clause-runs
+open_family-requires-clause-runs g c = c.latch_and_compress-decision.ensures.runs
 
-pub reopen-requires-clause-next : goal.reopen-requires-clause-next
-reopen-requires-clause-next g c = ap next_of c.latch_and_compress-decision.ensures.runs.on.state
+pub open_family-requires-clause-empty : goal.open_family-requires-clause-empty
+open_family-requires-clause-empty g c = c.latch_and_compress-decision.ensures.empty
 
-pub reopen-requires-clause-course : goal.reopen-requires-clause-course
-reopen-requires-clause-course g c = compression_course c.args.target (OpeningLeft c.args.kin.at c.latch_and_compress-decision.result) seen.Done _ c.latch_and_compress-decision.ensures.runs.on.state tt
-
-pub reopen-requires-2-clause-runs : goal.reopen-requires-2-clause-runs
-reopen-requires-2-clause-runs g c = record {
-  own = search rules;
-  running = search rules;
-  on = (on_itself _ _ _ (compression_runs c.args.tree.now.store.layout c.args.target (OpeningLeft c.args.kin.at c.latch_and_compress-decision.result) (OpeningParent c.args.kin.at.parent c.latch_and_compress-decision.result) seen.Done _ _ c.latch_and_compress-decision.ensures.runs.on c.reopen.ensures.goes refl));
-}
-
-pub reopen-requires-2-clause-next : goal.reopen-requires-2-clause-next
-reopen-requires-2-clause-next g c =
-    let on = compression_runs c.args.tree.now.store.layout c.args.target (OpeningLeft c.args.kin.at c.latch_and_compress-decision.result) (OpeningParent c.args.kin.at.parent c.latch_and_compress-decision.result) seen.Done _ _ c.latch_and_compress-decision.ensures.runs.on c.reopen.ensures.goes refl in
-    ap next_of on.state
-
-pub reopen-requires-2-clause-course : goal.reopen-requires-2-clause-course
-reopen-requires-2-clause-course g c =
-    let on = compression_runs c.args.tree.now.store.layout c.args.target (OpeningLeft c.args.kin.at c.latch_and_compress-decision.result) (OpeningParent c.args.kin.at.parent c.latch_and_compress-decision.result) seen.Done _ _ c.latch_and_compress-decision.ensures.runs.on c.reopen.ensures.goes refl in
-    compression_course c.args.target (OpeningParent c.args.kin.at.parent c.latch_and_compress-decision.result) seen.Done _ on.state tt
+pub open_family-requires-clause-no_room : goal.open_family-requires-clause-no_room
+open_family-requires-clause-no_room g c = c.latch_and_compress-decision.ensures.no_room
 
 pub returns : goal.returns
 returns g c =
-    let d = c.latch_and_compress-decision.ensures in let x = c.latch_and_compress-decision.result in
-    let on = compression_runs c.args.tree.now.store.layout c.args.target (OpeningLeft c.args.kin.at x) (OpeningParent c.args.kin.at.parent x) seen.Done _ _ d.runs.on c.reopen.ensures.goes refl in
-    let left = opens_parent c.args.target c.args.kin.at.parent x c.answer_of.result c.answer_of.ensures in
-    record {
-      same = same_hands c.args.hand.now.seat c.latch_and_compress-decision.new.hand.seat c.reopen-2.new.hand.seat d.same (same_hands c.latch_and_compress-decision.new.hand.seat c.reopen.new.hand.seat c.reopen-2.new.hand.seat c.reopen.ensures.same.0 c.reopen-2.ensures.same.0);
-      empty = c.reopen-2.ensures.same.2.0 ∙ (c.reopen.ensures.same.2.0 ∙ d.empty);
-      state = left.0;
-      runs = record { own = search rules; running = search rules; on = on_goes c.args.tree.now.store.layout seen.Done _ _ _ _ on c.reopen-2.ensures.goes left.1 };
-      left = left.2;
-      since = same_all _ _ _ d.since (same_all _ _ _ (same_goes _ _ _ c.reopen.ensures.goes) (same_goes _ _ _ c.reopen-2.ensures.goes));
-      no_room = λ hint e. refused_on c.reopen.new.hand.seat c.reopen-2.new.hand.seat 0 3 c.reopen-2.ensures.refusal (refused_on c.latch_and_compress-decision.new.hand.seat c.reopen.new.hand.seat 0 3 c.reopen.ensures.refusal (d.no_room (refused_answer x c.answer_of.result hint c.answer_of.ensures e)));
-    }
+    let d = c.latch_and_compress-decision.ensures in
+    leaves_since c.args.tree.now c.args.hand.now.seat c.latch_and_compress-decision.new.hand.seat c.open_family.new.hand c.args.target c.open_family.result d.same d.since c.open_family.ensures

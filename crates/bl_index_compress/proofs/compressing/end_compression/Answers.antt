@@ -1,4 +1,4 @@
-use Rattle.std.proofs.Common.{true, Some, ap, ◌∙◌}
+use Rattle.std.proofs.Common.{Some, ap, ◌∙◌}
 use Rattle.bl_proc_compress.specs.declared.compress.CompressStage.TheVariants as stages
 use Rattle.bl_proc_deterministic.specs.Frames.{op_of, work_of}
 use Rattle.bl_index_events.proofs.Rooms.{refused_on}
@@ -17,7 +17,7 @@ returns-clause-over c =
       empty = c.conclude.ensures.same.1.0 ∙ c.requires.empty;
       no_room = λ none. refused_on c.args.hand.now.seat c.conclude.new.hand.seat 0 3 c.conclude.ensures.refusal (c.requires.no_room none);
       is_compressed = λ pass old since. record {
-        last = record { level = j.level; key = j.key; waits = true; stage = stages.Over t.0; least = j.least; most = j.most };
+        last = record { level = j.level; key = j.key; waits = j.waits; stage = stages.Over t.0; least = j.least; most = j.most };
         done = c.conclude.ensures.done pass old (compress_of j stages.New) _ since (ends_compression j t.0 _ is) (ap op_of is) (ap work_of is);
         answer = ap Some t.1;
       };

@@ -4,10 +4,11 @@ use Rattle.bl_proc_steps.specs.declared.approach.Approach.TheVariants as approac
 use Rattle.bl_proc_routes.specs.declared.routes.Step.TheVariants.{Again, Right, Down, Here}
 use Rattle.bl_proc_routes.specs.Routes.{Leads}
 use Rattle.bl_proc.specs.declared.kinds.Proc.{Proc}
-use Rattle.bl_proc.specs.Processes.{Takes}
+use Rattle.bl_proc.specs.Processes.{next_of, Takes}
 use Rattle.bl_store.specs.Hands.{known}
 use Rattle.bl_store.specs.declared.store.Hand.{Hand}
 use Rattle.bl_index_rule.specs.declared.known.PassState.{PassState}
+use Rattle.bl_index_rule.specs.Observed.{IsNear}
 use Rattle.bl_index_descend.specs.declared.coming.Arrived.TheVariants.{There}
 use Rattle.bl_index_events.specs.Runs.{IsOn, IsSameProcess}
 use Rattle.bl_index_descend.specs.Events.{HasArrived}
@@ -21,8 +22,9 @@ returns-in-Here-clause-arrived g c =
     let went = c.look-glance.ensures.goes in
     let leads = subst (λ (z : ℕ × ℕ). Leads went.0 z.0 z.1 Here) (λ i. (c.key.ensures i, c.level.ensures i)) (c.in-Here.ensures.leads went.0 went.1) in
     let takes = subst (λ (z : Proc). Takes z (seen.Words went.0) (known c.look-glance.new.hand.seat).state) c.requires.runs.on.state (goes_takes _ _ _ went.2) in
+    let near : IsNear (known c.look-glance.new.hand.seat).pages (next_of (g.J.Target.at j c.args.path.now (approach.Latched c.args.page))) = subst (λ (z : ℕ × Proc). IsNear z.0 (next_of z.1)) (λ i. (sym went.2.steps.pages i, c.requires.runs.on.state i)) c.requires.runs.on.near in
     subst (λ (h : Hand PassState). HasArrived (g.J.Target.level_of j) (g.J.Target.key_of j) (g.J.Target.at j c.args.path.now) c.args.page layout h.seat (There c.look-glance.result)) (sym c.in-Here.ensures.same)
-    (c.look-glance.ensures.reads, record { page = went.0; is = went.1; leads = leads; takes = takes }, on_after layout _ _ _ _ c.requires.runs.on went.2)
+    (c.look-glance.ensures.reads, record { page = went.0; is = went.1; leads = leads; takes = takes; near = near }, on_after layout _ _ _ _ c.requires.runs.on went.2)
 
 pub returns-in-Here-clause-since : goal.returns-in-Here-clause-since
 returns-in-Here-clause-since g c = subst (λ (h : Hand PassState). IsSameProcess (known c.args.hand.now.seat) (known h.seat)) (sym c.in-Here.ensures.same) (same_goes _ _ _ c.look-glance.ensures.goes.2)

@@ -3,7 +3,7 @@ use Rattle.bl_store.specs.Hands.{known}
 use Rattle.bl_store.specs.declared.store.Hand.{Hand}
 use Rattle.bl_index_rule.specs.declared.known.PassState.{PassState}
 use Rattle.bl_index_edit.specs.Events.{IsWalking, LeavesParent, WalksStill}
-use Rattle.bl_index_edit.proofs.HandedOver.{walks_still}
+use Rattle.bl_index_edit.proofs.Walked.{walks_still}
 use Rattle.bl_index_edit.proofs.walks.post_there_within.Goals as goal
 
 pub stay-requires-clause-process : goal.stay-requires-clause-process
@@ -25,14 +25,8 @@ returns-in-Ok-clause-left g c =
     let p = c.args.poster.now in
     subst (λ (h : Hand PassState). LeavesParent c.args.tree.now h.seat c.walk_within.new.hand (g.P.Poster.level_of p) (g.P.Poster.key_of p) (g.P.Poster.staged p) (g.P.Poster.opened p) c.in-Ok.replies) c.begin_walk.ensures.same c.in-Ok.ensures.left
 
-pub walk_from-requires : goal.walk_from-requires
-walk_from-requires g c =
-    let walking = c.in-Err.ensures.walks.walking in
-    (walking.walk, (walking.at, walking.named ∙ sym c.key.ensures, walking.parent, walking.child))
-
 pub returns-in-Err-clause-walks : goal.returns-in-Err-clause-walks
 returns-in-Err-clause-walks g c =
-    let p = c.args.poster.now in let on = c.in-Err.ensures.walks in let walking = on.walking in
-    subst (λ (h : Hand PassState). WalksStill c.args.tree.now h.seat c.walk_within.new.hand (g.P.Poster.level_of p) (g.P.Poster.staged p) c.walk_from.result) c.begin_walk.ensures.same
-    (walks_still c.args.tree.now c.begin_walk.new.hand.seat c.walk_within.new.hand (g.P.Poster.level_of p) (g.P.Poster.key_of p) (g.P.Poster.staged p) c.args.at _ c.in-Err.next c.walk_from.result on
-    (c.walk_from.ensures walking.walk (walking.at, walking.named ∙ sym c.key.ensures, walking.parent, walking.child)))
+    let p = c.args.poster.now in
+    subst (λ (h : Hand PassState). WalksStill c.args.tree.now h.seat c.walk_within.new.hand (g.P.Poster.level_of p) (g.P.Poster.staged p) c.args.at) c.begin_walk.ensures.same
+    (walks_still c.args.tree.now c.begin_walk.new.hand.seat c.walk_within.new.hand (g.P.Poster.level_of p) (g.P.Poster.key_of p) (g.P.Poster.staged p) c.args.at _ c.in-Err._next c.in-Err.ensures.walks)

@@ -2,8 +2,8 @@ use Rattle.std.proofs.Common.{rules, ℕ, refl, subst, ap, ◌+◌, ◌≡◌, �
 use Rattle.bl_store.specs.Hands.{known}
 use Rattle.bl_index_read.specs.Turns.{IsAtTurn}
 use Rattle.bl_index_events.proofs.Calls.{since_step, own_looks}
-use Rattle.bl_index_read.proofs.Silent.{gives_up}
-use Rattle.bl_index_read.proofs.Ways.{going_under_way, going_is_search, ending_is_search, going_may_give_up}
+use Rattle.bl_index_events.proofs.Silent.{gives_up}
+use Rattle.bl_index_read.proofs.Ways.{going_under_way, going_is_search, ending_is_search, going_may_give_up, going_looks}
 use Rattle.bl_index_read.proofs.Paces.{at_step, at_last, at_end}
 use Rattle.bl_index_read.proofs.leaf_ways.seek_leaf.Goals as goal
 
@@ -69,6 +69,6 @@ returns-clause-came c = λ old pass got s t.
         bounded = end.0;
         gets = end.1 ∙ ap (λ (z : ℕ). got + z) all;
         below = end.2;
-        looks = own_looks _ _ _ _ on c.give_up.ensures.looks;
+        looks = own_looks _ _ _ _ on (going_looks c.args.sought c.args.key c.loop-turn.way _ _ inv.process.state c.give_up.ensures.tidy c.give_up.ensures.leaves);
       };
     }
