@@ -62,7 +62,7 @@ pub fn reserve<D, R: PageRule<D>, A: Allocator, T: PagePlay<D>, M: TimePlay<D>>(
     reserve_frames(store, hand, &mut stock, frames);
     if stock.count < frames {
         give_back(store, hand, &mut stock);
-        store.room.note_looked(hand.number, 0);
+        store.room.note_refused(hand.number);
         refuse::<_, _, _, M, Brand>(store, hand, pages, frames);
         return Err(NoRoom::Frames);
     }

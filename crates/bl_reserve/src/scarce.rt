@@ -3,7 +3,7 @@
 ghost use Rattle.std.specs.Prelude.{◌≤◌};
 ghost use Rattle.bl_layout.specs.Words.{frame_count};
 
-use bl_room::RING;
+use bl_room::{CHUNKS_A_LOOK, RING};
 use bl_store::{Hand, Store};
 use bl_store_rule::PageRule;
 use std::alloc::Allocator;
@@ -18,11 +18,11 @@ const FRAMES_A_HAND: u32 = 8;
 /// So many puts a hand makes at most between two looks for frames.
 const PUTS_A_LOOK: u32 = 64;
 
+/// A look by counts sees the frames of so many looks of each hand, so that others need not look.
+const LOOKS_AHEAD: u32 = 2;
+
 /// So many frames are counted together, and so many stand near that which the hand would try first.
 const FRAMES_NEAR: u32 = 1_024;
-
-/// So many chunks of frames a hand looks at for as many as all hands may take.
-const CHUNKS_A_LOOK: u32 = 64;
 
 /// With so many frames to spare for each hand they are ample: the rings of all hands are full before frames are scarce. With fewer some find
 /// frames in their rings, and take them, which others have counted.
@@ -45,7 +45,7 @@ pub fn lacks_frames<D, R: PageRule<D>, A: Allocator>(
     let puts = puts_a_look(store);
     let wanted = (FRAMES_A_HAND + puts) * store.layout.passes;
     if is_ample(store) {
-        if !counts_enough(store, hand, wanted) {
+        if !store.room.take_ahead(puts) && !counts_enough(store, hand, wanted) {
             return true;
         }
     } else {
@@ -82,13 +82,22 @@ fn counts_enough<D, R: PageRule<D>, A: Allocator>(
     if store.room.has_fresh(store.layout) {
         return true;
     }
-    let all = wanted.saturating_add(RING as u32 * store.layout.passes);
+    let mark = store.room.ahead();
+    let more = LOOKS_AHEAD * PUTS_A_LOOK * store.layout.passes;
+    let all = wanted
+        .saturating_add(RING as u32 * store.layout.passes)
+        .saturating_add(more);
     let frames = store.layout.frames();
-    if sees_frames_near(store, hand, all) {
+    if all <= FRAMES_NEAR && sees_frames_near(store, hand, all) {
+        store.room.note_ahead(mark, more);
         return true;
     }
     if store.room.has_spare(hand.sight.frame(), frames, all) {
-        return sees_counted(store, hand, all);
+        if !sees_counted(store, hand, all) {
+            return false;
+        }
+        store.room.note_ahead(mark, more);
+        return true;
     }
     let (from, to) = store.room.next_to_count(hand.number, frames);
     count_chunk(store, from, to, frames);

@@ -14,6 +14,9 @@ const BLOCK: u32 = 4_096;
 /// So many frames that nobody has used yet a hand takes at once, and it looks at so many before it does. As many are counted together.
 const CHUNK: u32 = 1_024;
 
+/// So many chunks of frames a hand looks at for as many as all hands may take.
+pub const CHUNKS_A_LOOK: u32 = 64;
+
 /// A count of free frames has in its upper half how often some were taken.
 const ONCE_TAKEN: u64 = 1 << 32;
 
@@ -55,6 +58,9 @@ pub struct Room {
     // How many frames of each chunk are free, of those that no hand keeps in sight. A put that finds its frame in sight writes to none of
     // these words.
     spare: Vec<AtomicU64>,
+    // How many puts hands may make of which the last look by counts has seen the frames, beside those of which each hand has looked itself;
+    // and in the upper half how many such looks there were.
+    ahead: AtomicU64,
     // How many puts each hand has made when it looks for frames next, and the chunk that it counts next, in a line of its own.
     looks_at: Vec<AtomicU64>,
 }
@@ -81,6 +87,7 @@ impl Room {
             blocks,
             fresh: AtomicU64::new((first.len() as u64).max(u64::from(first_frame(passes)))),
             spare,
+            ahead: AtomicU64::new(0),
             looks_at,
         })
     }
@@ -244,13 +251,14 @@ impl Room {
         }
     }
 
-    /// Whether so many frames are free, as they are counted, from the chunk of that frame on and around.
+    /// Whether so many frames are free, as they are counted, from the chunk of that frame on and around, in as many chunks as a look goes over:
+    /// so a look that would find too few does not begin.
     pub fn has_spare(&self, frame: u32, frames: u32, wanted: u32) -> bool
         requires { frames ≤ 2 ^ 30 }
     {
         let count = frames / CHUNK + 1;
         let mut free = 0u64;
-        for step in 0..count {
+        for step in 0..count.min(CHUNKS_A_LOOK) {
             free = free.saturating_add(self.spare_at(around(frame / CHUNK, step, count)));
             if free >= u64::from(wanted) {
                 return true;
@@ -305,12 +313,44 @@ impl Room {
         }
     }
 
-    /// The hand of that number has seen enough frames for all, and looks again when it has made so many puts; or it was refused, and looks
-    /// at once.
+    /// The hand of that number has seen enough frames for all, and looks again when it has made so many puts.
     pub fn note_looked(&self, number: u32, puts: u64) {
         if let Some(next) = self.looks_at.get(number as usize * LINE) {
             next.store(puts, Ordering::SeqCst);
         }
+    }
+
+    /// What the last look by counts has left, as it stands when one begins.
+    pub fn ahead(&self) -> u64 {
+        self.ahead.load(Ordering::SeqCst)
+    }
+
+    /// A look that began at that mark has seen the frames of so many puts more than each hand may make before it looks. Where another look
+    /// has ended meanwhile, what that one has seen stands.
+    pub fn note_ahead(&self, mark: u64, puts: u32) {
+        let looks = (mark / ONCE_TAKEN).wrapping_add(1);
+        let after = looks.wrapping_mul(ONCE_TAKEN).wrapping_add(u64::from(puts));
+        let _ = self
+            .ahead
+            .compare_exchange(mark, after, Ordering::SeqCst, Ordering::SeqCst);
+    }
+
+    /// Takes so many of the puts of which another hand has seen the frames. Says whether as many were left.
+    pub fn take_ahead(&self, puts: u32) -> bool {
+        let before = self.ahead.load(Ordering::SeqCst);
+        if before % ONCE_TAKEN < u64::from(puts) {
+            return false;
+        }
+        let after = before.wrapping_sub(u64::from(puts));
+        self.ahead
+            .compare_exchange(before, after, Ordering::SeqCst, Ordering::SeqCst)
+            .is_ok()
+    }
+
+    /// The hand of that number was refused. It looks at once, and nobody goes by what others have seen before.
+    pub fn note_refused(&self, number: u32) {
+        self.note_looked(number, 0);
+        self.note_ahead(self.ahead(), 0);
     }
 
     /// A walk may find room that the last one did not.

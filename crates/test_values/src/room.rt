@@ -86,6 +86,23 @@ fn fresh_frames_are_left(rt: HostRuntime) -> Result<(), Fail> {
     Ok(())
 }
 
+// A look has seen the frames of 128 puts. Two hands take 64 each, and a third finds none left. What a look says that began before another
+// one ended counts for nothing, and where a hand was refused nobody goes by what was seen before.
+#[test]
+fn puts_are_seen_ahead(rt: HostRuntime) -> Result<(), Fail> {
+    let room = Room::new(rt.alloc(), Layout::of(5_000, 2), &[[1; 32]; 3])?;
+    assert!(rt; !room.take_ahead(64));
+    let mark = room.ahead();
+    room.note_ahead(mark, 128);
+    assert!(rt; room.take_ahead(64) && room.take_ahead(64) && !room.take_ahead(64));
+    room.note_ahead(mark, 128);
+    assert!(rt; !room.take_ahead(64));
+    room.note_ahead(room.ahead(), 64);
+    room.note_refused(1);
+    assert!(rt; !room.take_ahead(64));
+    Ok(())
+}
+
 // A walk that found nothing counts until something comes, and where no other one has begun meanwhile.
 #[test]
 fn walks_tell_that_there_is_none(rt: HostRuntime) -> Result<(), Fail> {
