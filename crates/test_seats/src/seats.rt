@@ -3,10 +3,11 @@
 ghost use Rattle.std.specs.Prelude.{◌≡◌, [], ◌∷◌, IfSome};
 ghost use Rattle.bl_ffi_seats.specs.Closed.{values};
 ghost use Rattle.bl_ffi_seats.specs.Meetings.{AreOfOne};
+ghost use Rattle.bl_index_read.specs.LeafRows.{IsBelow};
 
 use bl_ffi_seats::{
     CloseFault, ImageFault, KeyReply, KeyWrite, Next, OpenFault, Reply, Seat, close, open,
-    open_image,
+    open_image, open_larger,
 };
 use bl_image::image_length;
 use std::alloc::Global;
@@ -161,6 +162,25 @@ fn a_part_has_the_rows_from_its_key_on(rt: HostRuntime) {
     assert!(rt; count == 5 && is_last(part, &[(3, 3), (4, 4)]));
 }
 
+/// The rows from a key on and below an end, read once.
+fn ranged(alloc: Global, seat: &mut Seat, from: u64, to: Option<u64>) -> Vec<(u64, u64)>
+    requires { IsBelow to from }
+{
+    match seat.range(alloc, from, to, 0) {
+        Some(Ok(rows)) => rows,
+        _ => Vec::new(alloc),
+    }
+}
+
+#[test]
+fn a_range_has_the_rows_between_its_keys(rt: HostRuntime) {
+    let mut seat = opened(rt.alloc(), 1_024).expect(&rt, "it is opened");
+    let count = insert_many(&mut seat, 300);
+    assert!(rt; count == 300 && ranged(rt.alloc(), &mut seat, 0, None).len() == 300);
+    let some = ranged(rt.alloc(), &mut seat, 97, Some(100));
+    assert!(rt; some.as_slice() == [(97, 97), (98, 98), (99, 99)].as_slice());
+}
+
 #[test]
 fn a_part_downwards_has_the_rows_up_to_its_key(rt: HostRuntime) {
     let mut seat = opened(rt.alloc(), 64).expect(&rt, "it is opened");
@@ -277,11 +297,10 @@ fn spelled(alloc: Global) -> Option<[u8; 32 + 256 * 64]> {
     Some(bytes)
 }
 
-/// How many rows an image has, and what is found at key 7; nothing, where it is none.
-fn found_in(alloc: Global, image: &[u8]) -> Option<(u64, Option<KeyReply>)> {
-    let mut seats = open_image(alloc, image, 1).ok()?;
-    let mut seat = seats.pop()?;
-    Some((count_rows(&mut seat), seat.find(7)))
+/// How many pages and rows an index has, and what is found at key 7; nothing, where it was not opened.
+fn found_in(opened: Result<Vec<Seat>, ImageFault>) -> Option<(u32, u64, Option<KeyReply>)> {
+    let mut seat = opened.ok()?.pop()?;
+    Some((seat.pages(), count_rows(&mut seat), seat.find(7)))
 }
 
 #[test]
@@ -289,7 +308,10 @@ fn seats_close_to_an_image_that_opens_again(rt: HostRuntime) {
     let alloc = rt.alloc();
     assert!(rt; image_length(64) == 32 + 256 * 64);
     let bytes = spelled(alloc).expect(&rt, "it is closed");
-    assert!(rt; found_in(alloc, &bytes) == Some((100, Some(KeyReply::Found(7)))));
+    let seven = Some(KeyReply::Found(7));
+    assert!(rt; found_in(open_image(alloc, &bytes, 1)) == Some((64, 100, seven)));
+    assert!(rt; found_in(open_larger(alloc, &bytes, 128, 1)) == Some((128, 100, seven)));
+    assert!(rt; open_larger(alloc, &bytes, 63, 1).err() == Some(ImageFault::Pages));
 }
 
 /// Why an index of two seats is not closed by one of them, how many come back, and what the one finds then.
