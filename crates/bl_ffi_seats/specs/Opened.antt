@@ -7,6 +7,8 @@ use Rattle.bl_image.specs.Images.{IsImage}
 use Rattle.bl_check.specs.Faults.{AreSoundImage}
 use Rattle.bl_index.specs.declared.index.Index.{Index}
 use Rattle.bl_index.specs.declared.index.Pass.{Pass}
+use Rattle.bl_index.specs.declared.config.OpenFault.{OpenFault}
+use Rattle.bl_index.specs.declared.config.OpenFault.TheVariants as of_index
 use Rattle.bl_index.specs.Opened.{IsIndexOpened, IsReopened as IsIndexReopened, IsReopenedIn as IsIndexReopenedIn}
 use Rattle.bl_ffi_seats.specs.declared.seat.Seat.{Seat}
 use Rattle.bl_ffi_seats.specs.declared.opening.ImageFault.{ImageFault}
@@ -48,6 +50,12 @@ pub record AreReopenedIn (bytes : List ℕ) (size among : ℕ) (seats : List Sea
   pub passes : List Pass
   pub opened : IsIndexReopenedIn image size among index passes
   pub each : AreSeatsOf index passes seats
+
+-- what a fault of an index is for its seats
+abbrev pub IsFaultFor : OpenFault → ImageFault → Type 0
+IsFaultFor of_index.Pages why = why ≡ fault.Pages
+IsFaultFor of_index.Passes why = why ≡ fault.Seats
+IsFaultFor of_index.Memory why = why ≡ fault.Memory
 
 -- Why no index was opened from the bytes: they are no sound image; or they are an image, and the seats are not within their limits.
 abbrev pub IsImageFault : List ℕ → ℕ → ImageFault → Type 0

@@ -1,13 +1,16 @@
 //! An index is opened with its seats.
 
-ghost use Rattle.std.specs.Prelude.{All, IfOk, IfErr};
+ghost use Rattle.std.specs.Prelude.{◌≡◌, ◌⊎◌, All, IfOk, IfErr};
+ghost use Rattle.bl_image.specs.Images.{IsImage};
+ghost use Rattle.bl_check.specs.Faults.{AreSoundImage};
+ghost use Rattle.bl_ffi_seats.specs.declared.opening.ImageFault.TheVariants as fault;
 ghost use Rattle.std.specs.Arc.{arc_value};
 ghost use Rattle.bl_index.specs.Calls.{IsPassOf};
 ghost use Rattle.bl_index.specs.Opened.{IsLargeRefusal};
-ghost use Rattle.bl_ffi_seats.specs.Opened.{AreSeatsOf, AreSeatsOpened, AreReopened, AreReopenedIn, IsImageFault, IsLargerFault, IsNewSeat};
+ghost use Rattle.bl_ffi_seats.specs.Opened.{AreSeatsOf, AreSeatsOpened, AreReopened, AreReopenedIn, IsFaultFor, IsImageFault, IsLargerFault, IsNewSeat};
 
 use crate::seat::{Seat, Upkeep};
-use bl_check::{Fault, load};
+use bl_check::{Fault, Quiet, load};
 use bl_index::{Config, Index, OpenFault, Pass};
 use bl_index_resume::Running;
 use std::alloc::{AllocError, Global};
@@ -45,24 +48,41 @@ pub fn open(alloc: Global, pages: u32, seats: u32) -> Result<Vec<Seat>, OpenFaul
     }
 }
 
+/// What a fault of the index is for a seat.
+fn fault_of(why: OpenFault) -> ImageFault
+    ensures { IsFaultFor why result }
+{
+    match why {
+        OpenFault::Pages => ImageFault::Pages,
+        OpenFault::Passes => ImageFault::Seats,
+        OpenFault::Memory => ImageFault::Memory,
+    }
+}
+
+/// The pages of an image, which is sound.
+fn loaded(alloc: Global, bytes: &[u8]) -> Result<Quiet, ImageFault>
+    ensures ok { IfOk result (λ quiet. IsImage quiet.image.pages.items bytes.now) }
+    ensures fault { IfErr result (λ why. (why ≡ fault.Memory) ⊎ ((why ≡ fault.Image) × (AreSoundImage bytes.now → ⊥))) }
+{
+    match load(alloc, bytes) {
+        Ok(quiet) => Ok(quiet),
+        Err(Fault::Memory) => Err(ImageFault::Memory),
+        Err(_) => Err(ImageFault::Image),
+    }
+}
+
 /// An index that begins with the rows of a sound image, with as many pages, and so many seats at it, 1 to 64. It fails with `Image`
 /// where the bytes are no sound image, with `Seats` where the number is another, and with `Memory` where there was none.
 pub fn open_image(alloc: Global, bytes: &[u8], seats: u32) -> Result<Vec<Seat>, ImageFault>
     ensures ok { IfOk result (λ v. AreReopened bytes.now seats v.items) }
     ensures fault { IfErr result (IsImageFault bytes.now seats) }
 {
-    let quiet = match load(alloc, bytes) {
-        Ok(quiet) => quiet,
-        Err(Fault::Memory) => return Err(ImageFault::Memory),
-        Err(_) => return Err(ImageFault::Image),
-    };
-    match Index::open_image(alloc, quiet, seats) {
+    match Index::open_image(alloc, loaded(alloc, bytes)?, seats) {
         Ok((index, passes)) => match shared(alloc, index, passes) {
             Ok(seats) => Ok(seats),
             Err(_) => Err(ImageFault::Memory),
         },
-        Err((_, OpenFault::Memory)) => Err(ImageFault::Memory),
-        Err(_) => Err(ImageFault::Seats),
+        Err((_, why)) => Err(fault_of(why)),
     }
 }
 
@@ -76,19 +96,12 @@ pub fn open_larger(
     ensures ok { IfOk result (λ v. AreReopenedIn bytes.now pages seats v.items) }
     ensures fault { IfErr result (IsLargerFault bytes.now pages seats) }
 {
-    let quiet = match load(alloc, bytes) {
-        Ok(quiet) => quiet,
-        Err(Fault::Memory) => return Err(ImageFault::Memory),
-        Err(_) => return Err(ImageFault::Image),
-    };
-    match Index::open_larger(alloc, quiet, pages, seats) {
+    match Index::open_larger(alloc, loaded(alloc, bytes)?, pages, seats) {
         Ok((index, passes)) => match shared(alloc, index, passes) {
             Ok(seats) => Ok(seats),
             Err(_) => Err(ImageFault::Memory),
         },
-        Err((_, OpenFault::Memory)) => Err(ImageFault::Memory),
-        Err((_, OpenFault::Pages)) => Err(ImageFault::Pages),
-        Err((_, OpenFault::Passes)) => Err(ImageFault::Seats),
+        Err((_, why)) => Err(fault_of(why)),
     }
 }
 
