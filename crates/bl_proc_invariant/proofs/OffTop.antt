@@ -1,5 +1,5 @@
 -- A lowering that is to latch the top page opens the anchor, which it holds, and looks again.
-use Rattle.std.proofs.Common.{ℕ, ◌≡◌, ◌++◌, None, Some, [], ◌∷◌, refl, ap, subst}
+use Rattle.std.proofs.Common.{ℕ, ◌≡◌, ◌++◌, Some, [], ◌∷◌, refl, ap, subst}
 use Rattle.bl_page.specs.declared.page.Page.{Page}
 use Rattle.bl_page.specs.Machine.{Name, State, Act}
 use Rattle.bl_claims.specs.Trails.{Mark, Trail}

@@ -9,7 +9,6 @@ use Rattle.bl_proc_writes.specs.declared.walking.Walk.{Walk}
 use Rattle.bl_proc_writes.specs.declared.post.Post.{Post}
 use Rattle.bl_proc_writes.specs.declared.post.PostStage.{PostStage}
 use Rattle.bl_proc_writes.specs.declared.post.PostStage.TheVariants.{Walking}
-use Rattle.bl_proc.specs.declared.kinds.Proc.{Proc}
 use Rattle.bl_proc.specs.declared.kinds.Proc.TheVariants as proc
 use Rattle.bl_proc_invariant.specs.Logs.{post_log, proc_log}
 use Rattle.bl_proc_invariant.specs.Tables.{alone, know_approach}
