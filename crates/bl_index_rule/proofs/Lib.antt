@@ -10,7 +10,7 @@ pub mod Shown
 pub mod Runners
 pub mod Turns
 pub mod Pages
-pub mod Opened
+pub mod Openings
 pub mod OffWalk
 pub mod OffTop
 pub mod Bounds

@@ -2,7 +2,7 @@
 use Rattle.std.proofs.Common.{ℕ, ◌≡◌, true, refl, sym, ap, ◌∙◌, subst, arith}
 use Rattle.bl_page.specs.Machine.{Name, Act}
 use Rattle.bl_page.specs.Machine as machine
-use Rattle.bl_claims.specs.Trails.{Mark, Trail, marks_of}
+use Rattle.bl_claims.specs.Trails.{Mark, marks_of}
 use Rattle.bl_claims.specs.Seeing.{name}
 use Rattle.bl_tree_worlds.proofs.After.{is_put_at}
 use Rattle.bl_tree_worlds.proofs.Pushes.{marks_of-own}
@@ -17,11 +17,11 @@ use Rattle.bl_proc_bounds.specs.Latches.{IsTidy}
 use Rattle.bl_proc_bounds.specs.Paces.{AllKept}
 use Rattle.bl_proc_bounds.proofs.Kept.{to_kept}
 use Rattle.bl_layout.specs.declared.layout.Layout.{Layout}
-use Rattle.bl_store_rule.specs.Pages.{Open, Held, Stage, Running, Pages, Stands, observed, owned, Opens}
+use Rattle.bl_store_rule.specs.Pages.{Open, Held, Running, Pages, Stands, observed, owned, Opens}
 use Rattle.bl_index_rule.specs.declared.known.PassState.{PassState}
 use Rattle.bl_index_rule.specs.Simulation.{Simulates}
 use Rattle.bl_index_rule.specs.Observed.{HasLeftTop, leaves_top}
-use Rattle.bl_index_rule.proofs.Opened.{opened_at, known_then, fits_then, steps_then}
+use Rattle.bl_index_rule.proofs.Openings.{opened_at, known_then, fits_then, steps_then}
 use Rattle.bl_index_rule.proofs.Pages.{running}
 use Rattle.bl_index_rule.proofs.Shown.{is_held}
 use Rattle.bl_index_rule.proofs.Stages.{turn_mark}
@@ -37,17 +37,17 @@ module _ (s : Pages PassState) (f : Simulates s) (n since : ℕ) (d : PassState)
   stood : (f.world.proc mine).state ≡ at_summit t
   stood = (standing s f n since d at).3 ∙ state
 
-  turned : Turned know f.world mine (Act.Open 0) (opened_at f 0) then_run
+  pub turned : Turned know f.world mine (Act.Open 0) (opened_at f 0) then_run
   turned = off_top f.world mine (opened_at f 0) t f.good stood (record { changes = (λ z. refl, is_put_at 0 machine.Owner.Open f.world.now.owner, λ q. refl); on = omega arith })
 
   abbrev mark : Mark
   mark = turn_mark f.world f.good n d.number (Act.Open 0) (opened_at f 0) then_run turned
 
-  log : proc_log looking (marks_of mine turned.next.trail)
+  pub log : proc_log looking (marks_of mine turned.next.trail)
   log = subst (proc_log looking) (sym (ap (marks_of mine) turned.extends.trail ∙ marks_of-own mine f.world.trail mark refl))
       (off_top_log t (marks_of mine f.world.trail) mark refl (subst (λ (z : Proc). proc_log z (marks_of mine f.world.trail)) state (standing s f n since d at).5))
 
-  kept : AllKept turned.next
+  pub kept : AllKept turned.next
   kept = to_kept f.world turned.next mark then_run turned.extends f.good turned.good (λ marks h. subst (λ (z : Proc). IsTidy z marks) stood h) refl (λ x e. cc) f.kept
 
   abbrev pub top_known : PassState

@@ -1,5 +1,5 @@
 -- A post on its walk gives that up and opens its parent: it keeps the rule, and the pass knows it.
-use Rattle.std.proofs.Common.{ℕ, ◌≡◌, ◌≢◌, ◌≤◌, true, List, set, refl, sym, ap, ◌∙◌, subst, arith}
+use Rattle.std.proofs.Common.{ℕ, ◌≡◌, true, refl, sym, ap, ◌∙◌, subst, arith}
 use Rattle.bl_page.specs.Machine.{Name, Act}
 use Rattle.bl_page.specs.Machine as machine
 use Rattle.bl_claims.specs.Trails.{marks_of}
@@ -13,7 +13,7 @@ use Rattle.bl_proc_writes.specs.declared.post.PostStage.TheVariants.{Walking}
 use Rattle.bl_proc.specs.declared.kinds.Proc.{Proc}
 use Rattle.bl_proc.specs.declared.kinds.Proc.TheVariants as proc
 use Rattle.bl_proc_invariant.specs.Logs.{proc_log}
-use Rattle.bl_proc_invariant.specs.Turns.{Does, Turned}
+use Rattle.bl_proc_invariant.specs.Turns.{Turned}
 use Rattle.bl_proc_invariant.specs.Walks.{off_walk, LeavesWalk}
 use Rattle.bl_proc_invariant.specs.Knowing.{Run, know, run_next}
 use Rattle.bl_proc_invariant.proofs.Instead.{with_proc, turned_instead}
@@ -24,12 +24,12 @@ use Rattle.bl_proc_bounds.proofs.Turns.{state_kept}
 use Rattle.bl_proc_deterministic.specs.Courses.{GoesOn}
 use Rattle.bl_proc_deterministic.proofs.Posts.{post_goes}
 use Rattle.bl_layout.specs.declared.layout.Layout.{Layout}
-use Rattle.bl_store_rule.specs.Pages.{Open, Held, Stage, Running, Pages, Stands, IsOrderly, observed, owned, Opens}
+use Rattle.bl_store_rule.specs.Pages.{Open, Held, Running, Pages, Stands, observed, owned, Opens}
 use Rattle.bl_index_rule.specs.declared.known.PassState.{PassState}
 use Rattle.bl_claims.specs.Seeing.{name}
 use Rattle.bl_index_rule.specs.Simulation.{Simulates}
 use Rattle.bl_index_rule.specs.Observed.{Goes, leaves_walk}
-use Rattle.bl_index_rule.proofs.Opened.{opened_at, known_then, fits_then, steps_then}
+use Rattle.bl_index_rule.proofs.Openings.{opened_at, known_then, fits_then, steps_then}
 use Rattle.bl_index_rule.proofs.Doings.{log_after}
 use Rattle.bl_index_rule.proofs.Pages.{running}
 use Rattle.bl_index_rule.proofs.Shown.{is_held}
@@ -43,7 +43,7 @@ module _ (s : Pages PassState) (f : Simulates s) (n since : ℕ) (d : PassState)
   leaving = proc.Post (off_walk a v)
 
   -- it opens its parent there
-  course : GoesOn leaving seen.Done
+  pub course : GoesOn leaving seen.Done
   course = post_goes (off_walk a v) seen.Done refl tt
 
   stood : (f.world.proc mine).state ≡ proc.Post a
@@ -65,16 +65,16 @@ module _ (s : Pages PassState) (f : Simulates s) (n since : ℕ) (d : PassState)
   abbrev then_run : Run
   then_run = run_next off_world.now (off_world.proc mine) seen.Done course.new
 
-  off_turned : Turned know off_world mine (Act.Open v.at) (opened_at f v.at) then_run
+  pub off_turned : Turned know off_world mine (Act.Open v.at) (opened_at f v.at) then_run
   off_turned = turn_of off_world mine leaving seen.Done (opened_at f v.at) good off_is course (act.Open v.at) refl tt tt (record { changes = (λ z. refl, is_put_at v.at machine.Owner.Open f.world.now.owner, λ q. refl); on = omega arith })
 
   abbrev turned : Turned know f.world mine (Act.Open v.at) (opened_at f v.at) then_run
   turned = turned_instead know f.world mine (Act.Open v.at) (opened_at f v.at) (off_run (f.world.proc mine) a v) then_run off_turned
 
-  then_log : proc_log course.new (marks_of mine turned.next.trail)
+  pub then_log : proc_log course.new (marks_of mine turned.next.trail)
   then_log = log_after off_world mine leaving seen.Done course (act.Open v.at) (opened_at f v.at) then_run off_turned refl tt log
 
-  kept : AllKept turned.next
+  pub kept : AllKept turned.next
   kept = state_kept off_world turned.next mine leaving then_run seen.Done (act.Open v.at) _ refl off_is refl off_turned.extends good off_turned.good log course.takes tt (off_kept f.world mine a v stood f.kept)
 
   abbrev pub off_known : PassState

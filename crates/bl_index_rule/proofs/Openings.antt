@@ -1,5 +1,5 @@
 -- A page was opened by a turn of the process that a hand runs, whatever that turn is: it keeps the rule, and the pass knows it.
-use Rattle.std.proofs.Common.{ℕ, ◌≡◌, ◌≤◌, true, set, refl, sym, ◌∙◌, subst, arith}
+use Rattle.std.proofs.Common.{ℕ, ◌≡◌, ◌≤◌, true, refl, sym, ◌∙◌, subst, arith}
 use Rattle.bl_page.specs.declared.page.Page.{Page}
 use Rattle.bl_page.specs.Machine.{Name, State, Act}
 use Rattle.bl_page.specs.Machine as machine
