@@ -7,6 +7,9 @@ use Rattle.bl_proc_steps.specs.declared.acts.Action.TheVariants as act
 use Rattle.bl_proc_steps.specs.declared.acts.Seen.TheVariants as seen
 use Rattle.bl_proc_steps.specs.declared.approach.Approach.{Approach}
 use Rattle.bl_proc_steps.specs.declared.approach.Approach.TheVariants as way
+use Rattle.bl_proc_steps.specs.declared.approach.Approached.TheVariants as came
+use Rattle.bl_proc_steps.specs.Approaches.{Enters}
+use Rattle.bl_page.specs.Nodes.{Roots, roots_of}
 use Rattle.bl_proc_writes.specs.declared.post.Post.{Post}
 use Rattle.bl_proc_writes.specs.declared.post.PostStage.{PostStage}
 use Rattle.bl_proc_writes.specs.declared.post.PostStage.TheVariants as post
@@ -16,6 +19,8 @@ use Rattle.bl_proc.specs.declared.kinds.Proc.{Proc}
 use Rattle.bl_proc.specs.declared.kinds.Proc.TheVariants as proc
 use Rattle.bl_proc.specs.Processes.{Takes}
 use Rattle.bl_proc_deterministic.proofs.Following.{not_begin_way}
+use Rattle.bl_proc_deterministic.proofs.KindCases.{PostCase, post_case}
+use Rattle.bl_proc_deterministic.proofs.WayCases.{ApproachCase, approach_case}
 use Rattle.bl_proc_deterministic.proofs.PostsFollowing.{post_follows}
 use Rattle.bl_proc_deterministic.proofs.Retirements.{post_none}
 use Rattle.bl_proc_deterministic.proofs.RefusedTurns.{takes_refused, takes_puts}
@@ -35,7 +40,8 @@ use Rattle.bl_index_events.specs.Rooms.{LacksPost}
 use Rattle.bl_index_events.proofs.Rooms.{words_not_refused}
 use Rattle.bl_index_write.specs.declared.targets.Posting.{Posting}
 use Rattle.bl_index_write.proofs.PostEnds.{posted_first}
-use Rattle.bl_index_write.specs.Events.{HasPosted, IsPostOver, IsPostUnderway, posting}
+use Rattle.bl_index_descend.specs.Events.{HoldsNone}
+use Rattle.bl_index_write.specs.Events.{HasPosted, IsOutside, IsPostOver, IsPostUnderway, posting}
 
 -- the post that a process is, if it is one
 abbrev pub post_in : Proc → Post → Post
@@ -53,10 +59,27 @@ post_is j s l m b below =
 not_retire : (s : PostStage) (x : ℕ) → post_next_in s ≢ act.Retire x
 not_retire s x e = subst (λ (z : Action). RetiresAfter (act.Get 0) seen.Done z) e (post_none (act.Get 0) seen.Done s)
 
+-- who has got the anchor on its way holds no page
+enters_none : (level : ℕ) (roots : Roots) (a : Approach) → Enters level roots a → HoldsNone a
+enters_none level roots way.Start t = tt
+enters_none level roots (way.At x) t = tt
+enters_none level roots (way.Latching x) t = tt
+enters_none level roots (way.Latched x) t = t
+enters_none level roots (way.Leaving x to) t = t
+
+way_outside : {level key : ℕ} {b : Approach} {c : Page} → ApproachCase level key way.Start (seen.Words c) (came.On b) → HoldsNone b
+way_outside {level} (ApproachCase.Entered c b t) = enters_none level (roots_of c) b t
+
+anchor_outside : {level key : ℕ} {c : Page} {b : PostStage} → PostCase level key (post.Coming way.Start) (seen.Words c) b → IsOutside b
+anchor_outside (PostCase.NoLevel c t) = tt
+anchor_outside (PostCase.Tallest c t) = tt
+anchor_outside (PostCase.ToGrow c t) = tt
+anchor_outside {level} {key} (PostCase.Came a what b t) = way_outside (approach_case level key a what (came.On b) t)
+
 module _ (tree : Tree) (hand : Hand PassState) (j : Posting) (p : Post) (empty : HasNoStock hand.seat) where
   -- on its way to its parent
-  pub underway_on_way : (a : Approach) → proc.Post p ≡ posting j (post.Coming a) tt → Runs tree hand (posting j (post.Coming a) tt) → IsPostUnderway tree hand j.level j.key p
-  underway_on_way a is runs =
+  pub underway_on_way : (a : Approach) → HoldsNone a → proc.Post p ≡ posting j (post.Coming a) tt → Runs tree hand (posting j (post.Coming a) tt) → IsPostUnderway tree hand j.level j.key p
+  underway_on_way a none is runs =
       let q : Post = record { level = j.level; key = j.key; stage = post.Coming a; least = j.least; most = j.most; below = tt } in
       let same : p ≡ q = ap (λ (z : Proc). post_in z p) is in
       subst (λ (z : Post). IsPostUnderway tree hand j.level j.key z) (sym same) (record {
@@ -66,6 +89,7 @@ module _ (tree : Tree) (hand : Hand PassState) (j : Posting) (p : Post) (empty :
         going = (refl, not_begin_way a);
         reserved = (refl, empty, not_retire (post.Coming a));
         free = ((λ r. r), (λ r. r));
+        outside = none;
       })
 
   -- where it has got the anchor of a tree that has no such level
@@ -80,6 +104,7 @@ module _ (tree : Tree) (hand : Hand PassState) (j : Posting) (p : Post) (empty :
         going = (follows.running (λ e. cc), follows.begun);
         reserved = (follows.frames, empty, not_retire p.stage);
         free = ((λ r. elim (takes_refused (proc.Post old) (seen.Words c) (proc.Post p) takes r) [ inl was ↦ was | inr observed ↦ words_not_refused _ observed ]), λ r. takes_puts (proc.Post old) (seen.Words c) (proc.Post p) takes r);
+        outside = anchor_outside (post_case j.level j.key (post.Coming way.Start) (seen.Words c) p.stage takes.2);
       }
 
 abbrev H : Type 0

@@ -6,6 +6,7 @@ use Rattle.bl_store_rule.specs.declared.view.View.{View}
 use Rattle.bl_store.specs.declared.store.Hand.{Hand}
 use Rattle.bl_store.specs.Hands.{known, HasNoStock}
 use Rattle.bl_proc_steps.specs.declared.acts.Action.TheVariants as act
+use Rattle.bl_proc_steps.specs.declared.growth.Growth.TheVariants.{Latching}
 use Rattle.bl_answers.specs.declared.answers.Answer.TheVariants as answer
 use Rattle.bl_answers.specs.declared.answers.Hint.{Hint}
 use Rattle.bl_answers.specs.declared.answers.Posted.{Posted}
@@ -23,6 +24,7 @@ use Rattle.bl_proc.specs.Processes.{answer_of, next_of}
 use Rattle.bl_proc_deterministic.specs.Refusals.{IsRefused, PutsRefused}
 use Rattle.bl_index_rule.specs.declared.known.PassState.{PassState}
 use Rattle.bl_index_write.specs.declared.targets.Posting.{Posting}
+use Rattle.bl_index_descend.specs.Events.{HoldsNone}
 use Rattle.bl_index_events.specs.Runs.{IsSince, IsDone, Rests, Runs, HasReserved}
 use Rattle.bl_index_events.specs.declared.tree.Tree.{Tree}
 use Rattle.bl_index_events.specs.Rooms.{LacksPost}
@@ -56,7 +58,14 @@ pub record IsPostOver (j : Posting) (d : PassState) (h : Seat (Unit {0}) (View P
   pub no_room : what ≡ posted.NoRoom → LacksPost j.level j.key h
   pub is_posted : (pass : ℕ) (old : PassState) → IsSince pass old d → HasPosted pass old (known h) (posting j post.New tt) what hint
 
--- The post of that key to that level is underway: the hand runs it, has reserved nothing, and was refused nothing.
+-- It holds no page: it is on its way, is to latch the anchor for a new top level, or is to end.
+abbrev pub IsOutside : PostStage → Type 0
+IsOutside (post.Coming a) = HoldsNone a
+IsOutside (post.Growing Latching) = Unit {0}
+IsOutside (post.Ending r) = Unit {0}
+IsOutside stage = ⊥
+
+-- The post of that key to that level is underway, and holds no page: the hand runs it, has reserved nothing, and was refused nothing.
 pub record IsPostUnderway (tree : Tree) (hand : Hand PassState) (level key : ℕ) (p : Post) : Type 0 where
   pub level_is : p.level ≡ level
   pub key_is : p.key ≡ key
@@ -64,6 +73,7 @@ pub record IsPostUnderway (tree : Tree) (hand : Hand PassState) (level key : ℕ
   pub going : (answer_of (proc.Post p) ≡ None) × (next_of (proc.Post p) ≢ act.Begin)
   pub reserved : HasReserved hand.seat None (proc.Post p)
   pub free : (IsRefused (proc.Post p) → ⊥) × (PutsRefused (proc.Post p) → ⊥)
+  pub outside : IsOutside p.stage
 
 -- the answer of a post
 abbrev pub IsPostAnswer : Option Answer → Type 0

@@ -22,7 +22,7 @@ returns-in-Ok-Some-clause-over c =
 pub returns-in-Ok-None-clause-underway : goal.returns-in-Ok-None-clause-underway
 returns-in-Ok-None-clause-underway c =
     let left = c.in-Ok-None.ensures.left in
-    (underway_on_way c.args.tree.now c.post_there_within.new.hand c.args.target c.on_way.result left.empty approach.Start c.on_way.ensures (leaves_again _ _ _ _ _ _ _ _ left c.in-Ok-None.field-0-is), left.since)
+    (underway_on_way c.args.tree.now c.post_there_within.new.hand c.args.target c.on_way.result left.empty approach.Start tt c.on_way.ensures (leaves_again _ _ _ _ _ _ _ _ left c.in-Ok-None.field-0-is), left.since)
 
 pub leave_walk-requires-clause-runs : goal.leave_walk-requires-clause-runs
 leave_walk-requires-clause-runs c = let runs = c.in-Err.ensures.walks.runs in record { own = runs.own; running = runs.running; on = on_itself _ _ _ runs.on }
@@ -37,7 +37,7 @@ pub returns-in-Err-clause-underway : goal.returns-in-Err-clause-underway
 returns-in-Err-clause-underway c =
     let walks = c.in-Err.ensures.walks in let off = c.leave_walk.ensures.off in
     let near = subst (λ (pages : ℕ). c.args.at < pages) c.requires.runs.on.pages c.requires.there.near in (
-      underway_on_way c.args.tree.now c.leave_walk.new.hand c.args.target c.on_way-in-Err.result (c.leave_walk.ensures.same.2.0 ∙ walks.empty) approach.Start c.on_way-in-Err.ensures (record {
+      underway_on_way c.args.tree.now c.leave_walk.new.hand c.args.target c.on_way-in-Err.result (c.leave_walk.ensures.same.2.0 ∙ walks.empty) approach.Start tt c.on_way-in-Err.ensures (record {
         own = search rules;
         running = search rules;
         on = off_on c.args.target c.args.at walks.walk walks.below (known c.post_there_within.new.hand.seat) (known c.leave_walk.new.hand.seat) c.args.tree.now.store.layout walks.runs.on near off;

@@ -25,7 +25,7 @@ returns-in-Parent-clause-underway c =
 pub returns-in-Underway-clause-underway : goal.returns-in-Underway-clause-underway
 returns-in-Underway-clause-underway c =
     let came = c.in-Underway.ensures.neared in (
-      underway_on_way c.args.tree.now c.reach_within.new.hand _ c.on_way.result (c.reach_within.ensures.same.2.0 ∙ (c.begin_descent.ensures.same.1.0 ∙ c.requires.idle.1)) c.in-Underway.way c.on_way.ensures
+      underway_on_way c.args.tree.now c.reach_within.new.hand _ c.on_way.result (c.reach_within.ensures.same.2.0 ∙ (c.begin_descent.ensures.same.1.0 ∙ c.requires.idle.1)) c.in-Underway.way came.0 c.on_way.ensures
           (record { own = search rules; running = search rules; on = came.1 }),
       c.reach_within.ensures.since _ _ c.begin_descent.ensures.begun,
     )
