@@ -13,9 +13,9 @@ ghost use Rattle.bl_index_resume.specs.Rooms.{KnowsRoom, LacksRoom};
 ghost use Rattle.bl_index_resume.specs.Running.{HasTurned, Yields};
 
 use crate::holding::Holder;
-use crate::spinning::Spinning;
 use bl_index_events::{Stepped, Tree};
 use bl_index_rule::PassState;
+use bl_index_write::Spinning;
 use bl_store::{Hand, Stock};
 
 /// How many events more a process may make until it holds no page. A write makes 6 at most from the latch of its leaf on: it gets the

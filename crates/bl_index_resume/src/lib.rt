@@ -11,7 +11,6 @@ mod carrying;
 mod holding;
 mod posting;
 mod running;
-mod spinning;
 mod sweeping;
 
 pub use carrying::go_on;

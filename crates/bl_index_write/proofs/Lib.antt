@@ -4,3 +4,4 @@ pub mod OffWalk
 pub mod PostEnds
 pub mod Underway
 pub mod Climbs
+pub mod Turning

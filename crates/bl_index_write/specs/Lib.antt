@@ -1,3 +1,4 @@
 pub mod Events
 pub mod Climbing
 pub mod Kinds
+pub mod Briefs

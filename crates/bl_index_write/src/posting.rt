@@ -1,6 +1,6 @@
 //! Posts, by the words of pages.
 
-ghost use Rattle.std.specs.Prelude.{◌≡◌, ◌<◌, ◌≤◌, ℕ, Some, IfOk, IfErr};
+ghost use Rattle.std.specs.Prelude.{◌≡◌, ◌<◌, ◌≤◌, ℕ, Some, IfOk, IfErr, IfSome, IfNone};
 ghost use Rattle.bl_page.specs.declared.page.Page.{Page};
 ghost use Rattle.bl_page.specs.Words.{words_of};
 ghost use Rattle.bl_proc_steps.specs.declared.acts.Seen.TheVariants as seen;
@@ -16,6 +16,8 @@ ghost use Rattle.bl_proc_deterministic.specs.Frames.{work_of};
 ghost use Rattle.bl_store.specs.Hands.{known, read_words, IsIdle, IsSameHand, HasNoStock, ReadsFrom};
 ghost use Rattle.bl_store.specs.Owners.{IsHandOf};
 ghost use Rattle.bl_index_rule.specs.declared.known.PassState.{PassState as Knows};
+ghost use Rattle.bl_claims.specs.Meanings.{HasRaised};
+ghost use Rattle.bl_index_events.specs.Answered.{Undone};
 ghost use Rattle.bl_index_events.specs.Runs.{Runs, Rests, IsSince, IsSameProcess};
 ghost use Rattle.bl_index_descend.specs.Events.{HasGotAnchor, IsThere};
 ghost use Rattle.bl_index_write.specs.Events.{posting, HasPosted, IsPostOver, IsPostUnderway, IsPostAnswer};
@@ -23,6 +25,8 @@ ghost use Rattle.bl_index_events.specs.Rooms.{LacksPost};
 ghost use Rattle.bl_answers.specs.declared.answers.Posted.TheVariants as postings;
 ghost use Rattle.bl_proc_writes.specs.declared.post.PostReply.TheVariants as replies;
 
+use crate::briefs::begins_again;
+use crate::carrying::carry_briefly;
 use crate::targets::Posting;
 use bl_index_descend::{Neared, Reached, begin_descent, reach, reach_within};
 use bl_index_edit::{post_there, post_there_within};
@@ -252,5 +256,43 @@ pub fn post_within(
         Neared::Parent(at, glance) => post_at(tree, hand, target, at, glance),
         Neared::Underway(way) => Err(on_way(target, way)),
         Neared::NoLevel(glance) => Err(looked_up(tree, hand, target, glance)),
+    }
+}
+
+/// Carries a post out, or gives up: it waits for nothing. None: it has listed nothing, and nothing of it is left but a new top level, where it
+/// has made one.
+pub fn try_post(
+    tree: &Tree,
+    hand: &mut Hand<PassState>,
+    level: u32,
+    key: u64,
+    turns: u32,
+) -> Option<(Posted, Option<Hint>)>
+    requires own { IsHandOf tree.now.store hand.old }
+    requires idle { IsIdle hand.old.seat × HasNoStock hand.old.seat }
+    requires least { 0 < level }
+    requires most { level ≤ 12 }
+    ensures same { IsSameHand hand.old.seat hand.new.seat }
+    ensures rests { Rests hand.new.seat }
+    ensures empty { HasNoStock hand.new.seat }
+    ensures posted { IfSome result (λ said. (first : Proc) × (work_of first ≡ Some (level, key))
+        × HasPosted hand.old.number (known hand.old.seat) (known hand.new.seat) first said.0 said.1) }
+    ensures no_room { IfSome result (λ said. said.0 ≡ postings.NoRoom → LacksPost level key hand.new.seat) }
+    ensures undone { IfNone result (Undone (HasRaised level) hand.old.number (known hand.old.seat) (known hand.new.seat)) }
+{
+    match post_within(tree, hand, level, key, turns) {
+        Ok(said) => Some(said),
+        Err(process) => {
+            let mut process = process;
+            if begins_again(&process.stage) {
+                tree.give_up(hand);
+                return None;
+            }
+            if carry_briefly(tree, hand, &mut process) {
+                return Some(posted(process.answer()));
+            }
+            tree.give_up(hand);
+            None
+        }
     }
 }

@@ -3,9 +3,9 @@
 use crate::stops::begun::{hand_of, opened};
 use bl_index_compress::try_compress;
 use bl_index_resume::{Running, advance, start_write};
-use bl_index_write::{begin_write, end_write, try_write};
+use bl_index_write::{begin_write, end_write, try_post, try_write};
 use bl_model::{KeyReply, KeyWrite, Reply};
-use bl_proc::{Answer, Squeezed};
+use bl_proc::{Answer, Posted, Squeezed};
 use std::test::Fail;
 
 // Each gets the anchor, and then latches the leaf. A write that came back then would hold it, and the other one would miss its latch.
@@ -105,5 +105,17 @@ fn a_compression_that_may_not_wait_is_alone_in_a_low_tree(rt: HostRuntime) -> Re
     assert!(rt; try_compress(tree, &mut other, 1, 5, 256) == Some((Squeezed::Alone, None)));
     let inserted = end_write(tree, &mut one, at, 5, insert, glance);
     assert!(rt; inserted == (KeyReply::Inserted, None));
+    Ok(())
+}
+
+// The tree has one level. A post makes the next one, and then its way begins again: it has listed nothing. The next one finds that the page
+// below has another low.
+#[test]
+fn a_post_that_may_not_wait_begins_anew_behind_a_new_level(rt: HostRuntime) -> Result<(), Fail> {
+    let (index, first, _, _) = opened(rt.alloc()).ok_or("no index")?;
+    let tree = index.tree();
+    let mut one = hand_of(&index, first);
+    assert!(rt; try_post(tree, &mut one, 1, 5, 256).is_none());
+    assert!(rt; try_post(tree, &mut one, 1, 5, 256) == Some((Posted::Stale, None)));
     Ok(())
 }

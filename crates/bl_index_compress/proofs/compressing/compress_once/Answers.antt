@@ -13,31 +13,31 @@ pub reach_within-requires-clause-led : goal.reach_within-requires-clause-led
 reach_within-requires-clause-led c = λ page below. below
 
 pub end_compression-requires-clause-process : goal.end_compression-requires-clause-process
-end_compression-requires-clause-process c = leaves_answered _ _ _ _ _ _ c.compress_there_within.ensures c.in-Some-compress_there_within.is
+end_compression-requires-clause-process c = leaves_answered _ _ _ _ _ _ c.compress_there_within.ensures c.in-Some.is
 
 pub end_compression-requires-clause-no_room : goal.end_compression-requires-clause-no_room
-end_compression-requires-clause-no_room c = λ none. c.compress_there_within.ensures.no_room _ (refused_said c.compress_there_within.result c.in-Some-compress_there_within.answer c.in-Some-compress_there_within.is none)
+end_compression-requires-clause-no_room c = λ none. c.compress_there_within.ensures.no_room _ (refused_said c.compress_there_within.result c.in-Some.answer c.in-Some.is none)
 
-pub returns-in-Some-compress_there_within-clause-same : goal.returns-in-Some-compress_there_within-clause-same
-returns-in-Some-compress_there_within-clause-same c =
+pub returns-in-Some-clause-same : goal.returns-in-Some-clause-same
+returns-in-Some-clause-same c =
     same_hands c.args.hand.now.seat c.compress_there_within.new.hand.seat c.end_compression.new.hand.seat
     (same_hands c.args.hand.now.seat c.reach_within.new.hand.seat c.compress_there_within.new.hand.seat c.reach_within.ensures.same.0 c.compress_there_within.ensures.same) c.end_compression.ensures.same
 
-pub returns-in-Some-compress_there_within-clause-over : goal.returns-in-Some-compress_there_within-clause-over
-returns-in-Some-compress_there_within-clause-over c =
+pub returns-in-Some-clause-over : goal.returns-in-Some-clause-over
+returns-in-Some-clause-over c =
     over_since c.args.target (known c.args.hand.now.seat) (known c.compress_there_within.new.hand.seat) c.end_compression.new.hand.seat _ _
     (same_all _ _ _ c.reach_within.ensures.since c.compress_there_within.ensures.since) c.end_compression.ensures.over
 
-pub returns-in-None-compress_there_within-clause-same : goal.returns-in-None-compress_there_within-clause-same
-returns-in-None-compress_there_within-clause-same c = same_hands c.args.hand.now.seat c.reach_within.new.hand.seat c.compress_there_within.new.hand.seat c.reach_within.ensures.same.0 c.compress_there_within.ensures.same
+pub returns-in-None-clause-same : goal.returns-in-None-clause-same
+returns-in-None-clause-same c = same_hands c.args.hand.now.seat c.reach_within.new.hand.seat c.compress_there_within.new.hand.seat c.reach_within.ensures.same.0 c.compress_there_within.ensures.same
 
-pub returns-in-None-compress_there_within-clause-back : goal.returns-in-None-compress_there_within-clause-back
-returns-in-None-compress_there_within-clause-back c =
+pub returns-in-None-clause-back : goal.returns-in-None-clause-back
+returns-in-None-clause-back c =
     let left = c.compress_there_within.ensures in
     record {
       way = Start;
       free = tt;
-      runs = leaves_again _ _ _ _ _ left c.in-None-compress_there_within.is;
+      runs = leaves_again _ _ _ _ _ left c.in-None.is;
       empty = left.empty;
       since = same_all _ _ _ c.reach_within.ensures.since left.since;
     }

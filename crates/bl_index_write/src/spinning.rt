@@ -5,13 +5,13 @@ use crossbeam_utils::Backoff;
 
 /// It spins, and lets no other thread run: a static library may not.
 #[derive(Drop)]
-pub(crate) struct Spinning {
+pub struct Spinning {
     backoff: Backoff,
 }
 
 impl Spinning {
     /// It has missed no latch.
-    pub(crate) fn new() -> Spinning {
+    pub fn new() -> Spinning {
         Spinning {
             backoff: Backoff::new(),
         }
