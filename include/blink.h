@@ -222,19 +222,19 @@ uint64_t blink_image_length(uint32_t pages);
 BLINK_INLINE int32_t blink_close_image(blink_seat *seats, size_t count, uint8_t *bytes,
                                        size_t room, uint64_t *length);
 
-/* Gives a map so many pages, as many as it has or more, while no other thread is in a call
- * of it: it is closed by all its seats, to an image in the caller's array, which has room
- * for so many bytes, and opened from it again. So grow by two, before the last sixteenth
- * of the pages is used: a map that is nearly full looks long for room. With every answer
- * but BLINK_OK and BLINK_SEATS_LOST the map has its rows and its pages as before.
+/* Gives a map so many pages, as many as it has or more, while no other thread is in a
+ * call of it: it is closed by all its seats, to an image in the caller's array, which has
+ * room for so many bytes, and opened from it again. So grow by two, before the last
+ * sixteenth of the pages is used: a map that is nearly full looks long for room. But for
+ * BLINK_OK and BLINK_SEATS_LOST the map has its rows and pages as before.
  *   BLINK_OK          it has so many pages
  *   BLINK_BAD_PAGES   `pages` is less than it has, or more than 2^28
  *   BLINK_NO_MEMORY   malloc refused, here or where the larger map was opened
  *   BLINK_CLOSED, BLINK_OTHER_MAP, BLINK_SEATS_OPEN, BLINK_FEW_BYTES
  *                     as of blink_close_image
- *   BLINK_SEATS_LOST  all seats are closed, since there was no memory for a map of the old
- *                     size either: the first `*length` bytes are the image. Or as there:
- *                     `*length` is 0 then */
+ *   BLINK_SEATS_LOST  all seats are closed, since there was no memory for a map of the
+ *                     old size either: the first `*length` bytes are the image. Or as
+ *                     there: `*length` is 0 then */
 BLINK_INLINE int32_t blink_resize(blink_seat *seats, size_t count, uint32_t pages,
                                   uint8_t *bytes, size_t room, uint64_t *length);
 
