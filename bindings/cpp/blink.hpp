@@ -18,6 +18,7 @@
 
 #include <algorithm>
 #include <array>
+#include <atomic>
 #include <cstddef>
 #include <cstdint>
 #include <cstdlib>
@@ -48,6 +49,18 @@ public:
     NoRoom() : Error(BLINK_NO_ROOM) {}
 };
 
+// A map that could neither get more pages nor be opened again as it was: it is closed, and
+// this has the image of its rows.
+class Lost : public Error {
+public:
+    explicit Lost(std::vector<uint8_t> image)
+        : Error(BLINK_SEATS_LOST), image_(std::move(image)) {}
+    const std::vector<uint8_t> &image() const noexcept { return image_; }
+
+private:
+    std::vector<uint8_t> image_;
+};
+
 namespace detail {
 
 // Throws what a code means that is no answer; without exceptions it ends the program.
@@ -66,7 +79,7 @@ namespace detail {
 struct Seats {
     std::mutex lock;
     std::vector<blink_seat> free;
-    uint32_t pages = 0;
+    std::atomic<uint32_t> pages{0};
     size_t handles = 0;
     bool is_closed = false;
 
@@ -494,6 +507,29 @@ public:
     }
     uint32_t pages() const noexcept { return seats_->pages; }
 
+    // Gives the map so many pages, as many as it has or more, if all handles are back. Else,
+    // or without memory, it throws, and the map is as it was; or it throws Lost.
+    void resize(uint32_t pages) {
+        const std::lock_guard<std::mutex> hold(seats_->lock);
+        auto &seats = *seats_;
+        if (seats.is_closed) detail::refuse(BLINK_CLOSED);
+        if (seats.free.size() != seats.handles) detail::refuse(BLINK_SEATS_OPEN);
+        std::vector<uint8_t> bytes(blink_image_length(seats.pages));
+        uint64_t length = 0;
+        const int32_t code = blink_resize(seats.free.data(), seats.free.size(), pages,
+                                          bytes.data(), bytes.size(), &length);
+        if (code == BLINK_OK) {
+            seats.pages = pages;
+        } else if (code == BLINK_SEATS_LOST) {
+            seats.free.clear();
+            seats.is_closed = true;
+            bytes.resize(length);
+            lose(std::move(bytes));
+        } else {
+            detail::refuse(code);
+        }
+    }
+
     // Closes the map, if all handles are back: its image. Else, or without memory, it
     // throws, and the map is open as it was.
     std::vector<uint8_t> close_image() {
@@ -523,6 +559,14 @@ private:
     }
     static void opened(int32_t code) {
         if (code != BLINK_OK) detail::refuse(code);
+    }
+    [[noreturn]] static void lose(std::vector<uint8_t> image) {
+#if defined(__cpp_exceptions)
+        throw Lost(std::move(image));
+#else
+        (void)image;
+        std::abort();
+#endif
     }
 
     std::shared_ptr<detail::Seats> seats_;

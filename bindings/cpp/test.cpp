@@ -166,6 +166,34 @@ static void threads(uint64_t times) {
 
 static uint64_t one_more(uint64_t value) { return value + 1; }
 
+// A map that gets more pages has its rows, and room for more; with a handle out it gets none.
+static void grows() {
+    blink::Map map(16, 2);
+    {
+        auto handle = map.handle();
+        for (uint64_t key = 0; key < 80; key++) handle.insert(key, key + 1);
+        try {
+            map.resize(32);
+            CHECK(false);
+        } catch (const blink::Error &error) {
+            CHECK(error.code() == BLINK_SEATS_OPEN);
+        }
+    }
+    for (uint32_t wrong : {15u, (1u << 28) + 1}) {
+        try {
+            map.resize(wrong);
+            CHECK(false);
+        } catch (const blink::Error &error) {
+            CHECK(error.code() == BLINK_BAD_PAGES);
+        }
+    }
+    map.resize(1024);
+    CHECK(map.pages() == 1024);
+    auto handle = map.handle(), other = map.handle();
+    for (uint64_t key = 80; key < 6000; key++) handle.insert(key, key + 1);
+    CHECK(handle.count() == 6000 && other.find(7) == 8 && other.find(5999) == 6000);
+}
+
 static void edges() {
     blink::Map map(16, 1);
     {
@@ -245,6 +273,7 @@ int main(int count, char **words) {
     for (unsigned seed = 1; seed < 5; seed++) beside_a_map(seed, steps);
     threads(uint64_t(steps) / 2);
     edges();
+    grows();
     refusals();
-    std::printf("%d steps as of a std::map, edges, refusals, five threads\n", 4 * steps);
+    std::printf("%d steps as of a std::map, edges, growth, refusals, five threads\n", 4 * steps);
 }

@@ -81,6 +81,33 @@ impl fmt::Display for NoRoomAfter {
 
 impl Error for NoRoomAfter {}
 
+/// Why [`Map::resize`] has given a map no more pages.
+#[derive(Clone, Debug, PartialEq, Eq)]
+#[non_exhaustive]
+pub enum ResizeError {
+    /// Some handles are out, or the map is closed.
+    HandlesOut,
+    /// The number of pages is less than the map has, or more than 2^28.
+    Pages,
+    /// There is no memory.
+    Memory,
+    /// There was no memory even for a map of the old size: it is closed, and this is its image.
+    Lost(Vec<u8>),
+}
+
+impl fmt::Display for ResizeError {
+    fn fmt(&self, f: &mut fmt::Formatter<'_>) -> fmt::Result {
+        f.write_str(match self {
+            ResizeError::HandlesOut => "some handles of the map are out, or it is closed",
+            ResizeError::Pages => "the number of pages is less than the map has, or more than 2^28",
+            ResizeError::Memory => "there is no memory",
+            ResizeError::Lost(_) => "there was no memory to open the map again",
+        })
+    }
+}
+
+impl Error for ResizeError {}
+
 /// Why [`Handle::snapshot`](crate::Handle::snapshot) has no rows.
 #[derive(Clone, Copy, Debug, PartialEq, Eq)]
 #[non_exhaustive]

@@ -31,7 +31,7 @@ mod range;
 mod update;
 
 pub use blink_sys::blink_room as Room;
-pub use error::{CloseError, ExchangeError, NoRoom, NoRoomAfter, OpenError, SnapshotError};
+pub use error::{CloseError, ExchangeError, NoRoom, NoRoomAfter, OpenError, ResizeError, SnapshotError};
 pub use range::Range;
 
 use blink_sys::*;
@@ -41,6 +41,7 @@ use std::fmt;
 use std::io;
 use std::ops::{Bound, RangeBounds};
 use std::path::Path;
+use std::sync::atomic::{AtomicU32, Ordering};
 use std::sync::{Arc, Mutex, MutexGuard, PoisonError};
 
 /// The most rows of one leaf.
@@ -65,13 +66,17 @@ impl Drop for Seat {
 
 struct Shared {
     free: Mutex<Vec<Seat>>,
-    pages: u32,
+    pages: AtomicU32,
     handles: usize,
 }
 
 impl Shared {
     fn free(&self) -> MutexGuard<'_, Vec<Seat>> {
         self.free.lock().unwrap_or_else(PoisonError::into_inner)
+    }
+
+    fn pages(&self) -> u32 {
+        self.pages.load(Ordering::SeqCst)
     }
 }
 
@@ -101,7 +106,7 @@ fn opened(code: i32, mut seats: Vec<blink_seat>) -> Result<Map, OpenError> {
     unsafe { blink_stat(&mut seats[0], &mut stats) };
     let pages = stats.pages as u32;
     let free = Mutex::new(seats.into_iter().rev().map(Seat).collect());
-    Ok(Map { shared: Arc::new(Shared { free, pages, handles }) })
+    Ok(Map { shared: Arc::new(Shared { free, pages: AtomicU32::new(pages), handles }) })
 }
 
 /// The version of the library that is linked, as "0.1.0".
@@ -169,7 +174,41 @@ impl Map {
 
     /// How many pages the map has.
     pub fn pages(&self) -> u32 {
-        self.shared.pages
+        self.shared.pages()
+    }
+
+    /// Gives the map so many pages, as many as it has or more, if all handles are back.
+    ///
+    /// # Errors
+    ///
+    /// Where a handle is out, the number is not within these limits, or there is no memory; the map is as it was then, but for
+    /// [`ResizeError::Lost`], which has its image.
+    pub fn resize(&self, pages: u32) -> Result<(), ResizeError> {
+        let mut free = self.shared.free();
+        if free.len() != self.shared.handles {
+            return Err(ResizeError::HandlesOut);
+        }
+        let mut seats: Vec<blink_seat> = free.iter().map(|seat| blink_seat { at: seat.0.at }).collect();
+        // SAFETY: the function takes any number.
+        let mut bytes = vec![0; unsafe { blink_image_length(self.shared.pages()) } as usize];
+        let mut length = 0;
+        // SAFETY: as for `close_image`.
+        let code =
+            unsafe { blink_resize(seats.as_mut_ptr(), seats.len(), pages, bytes.as_mut_ptr(), bytes.len(), &mut length) };
+        for (seat, left) in free.iter_mut().zip(seats) {
+            seat.0 = left;
+        }
+        match code {
+            BLINK_OK => self.shared.pages.store(pages, Ordering::SeqCst),
+            BLINK_SEATS_LOST => {
+                free.clear();
+                bytes.truncate(length as usize);
+                return Err(ResizeError::Lost(bytes));
+            }
+            BLINK_BAD_PAGES => return Err(ResizeError::Pages),
+            _ => return Err(ResizeError::Memory),
+        }
+        Ok(())
     }
 
     /// Closes the map, if all handles are back: its image. Clones of the map have no handle any more then.
@@ -185,7 +224,7 @@ impl Map {
         }
         let mut seats: Vec<blink_seat> = free.iter().map(|seat| blink_seat { at: seat.0.at }).collect();
         // SAFETY: the function takes any number.
-        let mut bytes = vec![0; unsafe { blink_image_length(self.shared.pages) } as usize];
+        let mut bytes = vec![0; unsafe { blink_image_length(self.shared.pages()) } as usize];
         let mut length = 0;
         // SAFETY: the seats are all those of one map, the lock keeps others from them, and each pointer is of a vector or a
         // variable that is there, with the length of the vector beside it.
@@ -208,7 +247,7 @@ impl Map {
 impl fmt::Debug for Map {
     fn fmt(&self, f: &mut fmt::Formatter<'_>) -> fmt::Result {
         f.debug_struct("Map")
-            .field("pages", &self.shared.pages)
+            .field("pages", &self.shared.pages())
             .field("handles", &self.shared.handles)
             .finish_non_exhaustive()
     }
@@ -465,7 +504,7 @@ impl Handle {
     /// Where there is no memory.
     pub fn image(&self) -> io::Result<Vec<u8>> {
         // SAFETY: the function takes any number.
-        let mut bytes = vec![0; unsafe { blink_image_length(self.shared.pages) } as usize];
+        let mut bytes = vec![0; unsafe { blink_image_length(self.shared.pages()) } as usize];
         loop {
             // Some more, since others may insert; and a leaf's, by which the scan reads.
             let mut rows = vec![blink_row::default(); self.count(..) as usize * 9 / 8 + LEAF_ROWS];
@@ -511,7 +550,7 @@ impl Drop for Handle {
 
 impl fmt::Debug for Handle {
     fn fmt(&self, f: &mut fmt::Formatter<'_>) -> fmt::Result {
-        f.debug_struct("Handle").field("pages", &self.shared.pages).finish_non_exhaustive()
+        f.debug_struct("Handle").field("pages", &self.shared.pages()).finish_non_exhaustive()
     }
 }
 

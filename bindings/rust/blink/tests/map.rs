@@ -1,4 +1,4 @@
-use blink::{CloseError, ExchangeError, Handle, Map, NoRoom, NoRoomAfter, OpenError};
+use blink::{CloseError, ExchangeError, Handle, Map, NoRoom, NoRoomAfter, OpenError, ResizeError};
 use std::collections::BTreeMap;
 use std::ops::Bound;
 
@@ -131,6 +131,20 @@ fn edges() {
     assert_eq!(map.close_image().unwrap().len(), 32 + 256 * 16);
     assert!(other.handle().is_none());
     assert!(matches!(other.close_image(), Err(CloseError::HandlesOut(_))));
+}
+
+#[test]
+fn grows() {
+    let map = Map::new(16, 2).unwrap();
+    let handle = map.handle().unwrap();
+    (0..80).for_each(|k| assert_eq!(handle.insert(k, k + 1), Ok(None)));
+    assert_eq!(map.resize(32), Err(ResizeError::HandlesOut));
+    drop(handle);
+    assert_eq!((map.resize(15), map.resize((1 << 28) + 1)), (Err(ResizeError::Pages), Err(ResizeError::Pages)));
+    assert_eq!((map.resize(1024), map.pages()), (Ok(()), 1024));
+    let (handle, other) = (map.handle().unwrap(), map.handle().unwrap());
+    (80..6000).for_each(|k| assert_eq!(handle.insert(k, k + 1), Ok(None)));
+    assert_eq!((other.count(..), other.get(7), other.get(5999)), (6000, Some(8), Some(6000)));
 }
 
 #[test]
