@@ -3,7 +3,8 @@
 ghost use Rattle.std.specs.Prelude.{◌≤◌};
 ghost use Rattle.bl_layout.specs.Words.{frame_count};
 
-use bl_room::{CHUNKS_A_LOOK, RING};
+use bl_layout::Layout;
+use bl_room::RING;
 use bl_store::{Hand, Store};
 use bl_store_rule::PageRule;
 use std::alloc::Allocator;
@@ -92,8 +93,12 @@ fn counts_enough<D, R: PageRule<D>, A: Allocator>(
         store.room.note_ahead(mark, more);
         return true;
     }
-    if store.room.has_spare(hand.sight.frame(), frames, all) {
-        if !sees_counted(store, hand, all) {
+    let chunks = chunks_a_look(store.layout, all);
+    if store
+        .room
+        .has_spare(hand.sight.frame(), frames, all, chunks)
+    {
+        if !sees_counted(store, hand, all, chunks) {
             return false;
         }
         store.room.note_ahead(mark, more);
@@ -104,17 +109,29 @@ fn counts_enough<D, R: PageRule<D>, A: Allocator>(
     false
 }
 
+// How many chunks a look for so many frames goes over: they have four times as many to spare, where all are free. So it ends early where few
+// are, and does not begin where too few are counted there.
+fn chunks_a_look(layout: Layout, wanted: u32) -> u32 {
+    let chunks = layout.frames() / FRAMES_NEAR + 1;
+    let most = u64::from(wanted)
+        .saturating_mul(4)
+        .saturating_mul(u64::from(chunks));
+    let share = (most / u64::from(layout.spare)).saturating_add(1);
+    share.min(u64::from(chunks)) as u32
+}
+
 // Whether so many frames are free in the chunks that have some as they are counted, so many chunks at most. It counts them anew.
 fn sees_counted<D, R: PageRule<D>, A: Allocator>(
     store: &Store<D, R, A>,
     hand: &Hand<D>,
     wanted: u32,
+    chunks: u32,
 ) -> bool {
     let frames = store.layout.frames();
     let mut missing = wanted;
     let mut frame = hand.sight.frame() / FRAMES_NEAR * FRAMES_NEAR;
     let mut passed = 0u32;
-    for _ in 0..CHUNKS_A_LOOK {
+    for _ in 0..chunks {
         let (from, to) = store.room.next_spare(frame, frames);
         passed = passed.saturating_add(way(frame, to, frames));
         // It has come around to where it began.

@@ -10,6 +10,6 @@ mod seen;
 mod sight;
 
 pub use blank::is_all_zeros;
-pub use room::{CHUNKS_A_LOOK, Room, end_near};
+pub use room::{Room, end_near};
 pub use seen::RoomSeen;
 pub use sight::{OWNERS_A_SWEEP, RING, Sight};

@@ -14,9 +14,6 @@ const BLOCK: u32 = 4_096;
 /// So many frames that nobody has used yet a hand takes at once, and it looks at so many before it does. As many are counted together.
 const CHUNK: u32 = 1_024;
 
-/// So many chunks of frames a hand looks at for as many as all hands may take.
-pub const CHUNKS_A_LOOK: u32 = 64;
-
 /// A count of free frames has in its upper half how often some were taken.
 const ONCE_TAKEN: u64 = 1 << 32;
 
@@ -251,14 +248,13 @@ impl Room {
         }
     }
 
-    /// Whether so many frames are free, as they are counted, from the chunk of that frame on and around, in as many chunks as a look goes over:
-    /// so a look that would find too few does not begin.
-    pub fn has_spare(&self, frame: u32, frames: u32, wanted: u32) -> bool
+    /// Whether so many frames are free, as they are counted, from the chunk of that frame on and around, in so many chunks.
+    pub fn has_spare(&self, frame: u32, frames: u32, wanted: u32, chunks: u32) -> bool
         requires { frames ≤ 2 ^ 30 }
     {
         let count = frames / CHUNK + 1;
         let mut free = 0u64;
-        for step in 0..count.min(CHUNKS_A_LOOK) {
+        for step in 0..count.min(chunks) {
             free = free.saturating_add(self.spare_at(around(frame / CHUNK, step, count)));
             if free >= u64::from(wanted) {
                 return true;

@@ -44,22 +44,23 @@ fn chunks_follow_each_other(rt: HostRuntime) -> Result<(), Fail> {
 #[test]
 fn spare_frames_are_counted(rt: HostRuntime) -> Result<(), Fail> {
     let room = Room::new(rt.alloc(), Layout::of(5_000, 2), &[[1; 32]; 3])?;
-    assert!(rt; room.has_spare(0, 10_016, 10_013) && !room.has_spare(0, 10_016, 10_014));
+    assert!(rt; room.has_spare(0, 10_016, 10_013, 10) && !room.has_spare(0, 10_016, 10_014, 10));
+    assert!(rt; room.has_spare(0, 10_016, 1_021, 1) && !room.has_spare(0, 10_016, 1_022, 1));
     assert!(rt; room.next_spare(9_300, 10_016) == (9_216, 10_016));
     room.note_counted(9_300, 801, 2);
-    assert!(rt; room.has_spare(0, 10_016, 10_013));
+    assert!(rt; room.has_spare(0, 10_016, 10_013, 10));
     let mark = room.mark(9_300);
     room.note_counted(9_300, mark, 2);
-    assert!(rt; room.has_spare(0, 10_016, 9_215) && !room.has_spare(0, 10_016, 9_216));
+    assert!(rt; room.has_spare(0, 10_016, 9_215, 10) && !room.has_spare(0, 10_016, 9_216, 10));
     room.note_spent(9_216, 3);
     assert!(rt; room.next_spare(9_300, 10_016) == (0, 1_024));
     room.note_spent(9_216, 1);
     room.note_spare(10_015);
     assert!(rt; room.next_spare(9_300, 10_016) == (9_216, 10_016));
-    assert!(rt; room.has_spare(0, 10_016, 9_214) && !room.has_spare(0, 10_016, 9_215));
+    assert!(rt; room.has_spare(0, 10_016, 9_214, 10) && !room.has_spare(0, 10_016, 9_215, 10));
     // Who has looked before some were taken and released says nothing any more.
     room.note_counted(9_300, mark, 700);
-    assert!(rt; !room.has_spare(0, 10_016, 9_215));
+    assert!(rt; !room.has_spare(0, 10_016, 9_215, 10));
     assert!(rt; room.next_to_count(1, 10_016) == (1_024, 2_048));
     assert!(rt; room.next_to_count(1, 10_016) == (2_048, 3_072));
     Ok(())
@@ -70,7 +71,7 @@ fn spare_frames_are_counted(rt: HostRuntime) -> Result<(), Fail> {
 fn fresh_frames_are_left(rt: HostRuntime) -> Result<(), Fail> {
     let layout = Layout::of(70_000, 2);
     let room = Room::new(rt.alloc(), layout, &[])?;
-    assert!(rt; room.has_fresh(layout) && !room.has_spare(0, layout.frames(), 1));
+    assert!(rt; room.has_fresh(layout) && !room.has_spare(0, layout.frames(), 1, 1_000));
     // A hand that has gone on into them leaves its chunk behind.
     room.note_spent(5_000, 1);
     assert!(rt; room.take_chunk(layout.frames()) == (5_120, 6_144));
