@@ -6,8 +6,8 @@
 #include <string.h>
 
 enum { PAGES = 65536, WIDTH = 100 };
-enum what { INSERT, FIND, PUT, CHANGE, DELETE, EMPTY, SCAN, KINDS };
-static const char *const names[KINDS] = { "insert", "find", "put", "change", "delete", "empty", "scan" };
+enum what { INSERT, FIND, PUT, CHANGE, DELETE, EMPTY, SCAN, RANGE, KINDS };
+static const char *const names[KINDS] = { "insert", "find", "put", "change", "delete", "empty", "scan", "range" };
 static blink_seat seat;
 
 static uint64_t key_of(uint64_t row) {
@@ -37,7 +37,7 @@ static int32_t begin(enum what what, uint64_t rows) {
     if (what == DELETE) return load(rows, 14, 2);
     answer = blink_open(PAGES, &seat, 1);
     for (uint64_t row = 0; row < rows && answer == BLINK_OK; row++)
-        answer = blink_insert(&seat, what == SCAN ? row : key_of(row), row, &there);
+        answer = blink_insert(&seat, what >= SCAN ? row : key_of(row), row, &there);
     return answer;
 }
 
@@ -53,6 +53,9 @@ static bool call(enum what what, uint64_t rows, uint64_t turn) {
         case CHANGE: return blink_change(&seat, key_of(row), row, turn, &value) == BLINK_OK;
         case DELETE: return blink_delete(&seat, turn * 28, &value) == BLINK_OK && value == turn * 14;
         case EMPTY: return blink_delete(&seat, key_of(row), &value) == BLINK_OK && value == row;
+        case RANGE:
+            from = turn * 7919 % (rows - WIDTH);
+            return blink_range(&seat, from, from + WIDTH - 1, 64, list, WIDTH, &next) == BLINK_OK && next == WIDTH;
         default:
             from = turn * 7919 % (rows - WIDTH);
             return blink_scan_to(&seat, from, from + WIDTH - 1, list, WIDTH, &count, &next, &more) == BLINK_OK && count == WIDTH;
