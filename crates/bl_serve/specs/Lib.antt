@@ -2,6 +2,7 @@ pub mod Dealing
 pub mod Joining
 pub mod Chunks
 pub mod Meetings
+pub mod Noting
 pub mod Reading
 pub mod Sections
 pub mod Serving

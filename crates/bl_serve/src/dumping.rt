@@ -9,6 +9,7 @@ ghost use Rattle.bl_serve.specs.Origins.{HasPages, MayServe, StopsFrom};
 ghost use Rattle.bl_serve.specs.Serving.{AreTogether, EndsServing, seen_by};
 
 use crate::origin::Origin;
+use crate::outside::Outside;
 use crate::serving::serve_with;
 use crate::session::ServePlan;
 use crate::starting::{open_index, plan_of};
@@ -69,24 +70,24 @@ pub fn dump_index<T: Threads + Wait + Sync, R: Read, W: Write>(
 }
 
 /// The same by a plan, as `serve_by_plan` serves, and what else was counted.
-pub fn dump_by_plan<T: Threads + Wait + Sync, R: Read, W: Write>(
+pub fn dump_by_plan<T: Threads + Wait + Sync, R: Read, O: Outside>(
     rt: &T,
     alloc: Global,
     origin: Origin,
     plan: ServePlan,
     reader: &mut Watched<R>,
-    writer: &mut Watched<W>,
+    outside: &mut O,
 ) -> Result<(Summary, Result<Quiet, AllocError>), ServeFault>
     requires pages { HasPages origin }
     requires passes { MayServe plan }
     ensures serves { EndsServing (λ t. DumpedFrom plan.sections origin t.0.totals t.1) (StopsFrom plan.sections origin)
         (R.remaining reader.old.inner) (R.remaining reader.new.inner) (reader.new.failed ≡ true)
-        (W.contents writer.old.inner) (W.contents writer.new.inner) (writer.new.failed ≡ true) result }
-    ensures flushed { OnOk result (writer.new.pending ≡ false) }
+        (O.printed outside.old) (O.printed outside.new) (O.has_failed outside.new) result }
+    ensures flushed { OnOk result (O.is_flushed outside.new) }
 {
     let threads = plan_of(plan);
     let (index, passes) = open_index(alloc, origin, plan.workers + plan.compressors)?;
-    match serve_with(rt, &index, passes, reader, writer, &OpenGate, threads) {
+    match serve_with(rt, &index, passes, reader, outside, &OpenGate, threads) {
         Ok((summary, passes)) => Ok((summary, shut(alloc, index, passes))),
         Err(fault) => Err(fault),
     }

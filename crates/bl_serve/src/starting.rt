@@ -7,6 +7,7 @@ ghost use Rattle.bl_serve.specs.Origins.{HasPages, MayServe, ServedFrom, StopsFr
 ghost use Rattle.bl_serve.specs.Serving.{EndsServing};
 
 use crate::origin::Origin;
+use crate::outside::Outside;
 use crate::serving::serve_with;
 use crate::session::{ServePlan, ThreadPlan};
 use crate::summary::Summary;
@@ -109,24 +110,24 @@ pub fn serve_index<T: Threads + Wait + Sync, R: Read, W: Write>(
 
 /// The same by a plan, and what else was counted. Where each line is a section, its reply is written and flushed before the next line
 /// is read, and the history is in the order of the lines.
-pub fn serve_by_plan<T: Threads + Wait + Sync, R: Read, W: Write>(
+pub fn serve_by_plan<T: Threads + Wait + Sync, R: Read, O: Outside>(
     rt: &T,
     alloc: Global,
     origin: Origin,
     plan: ServePlan,
     reader: &mut Watched<R>,
-    writer: &mut Watched<W>,
+    outside: &mut O,
 ) -> Result<Summary, ServeFault>
     requires pages { HasPages origin }
     requires passes { MayServe plan }
     ensures serves { EndsServing (λ s. ServedFrom plan.sections origin s.totals) (StopsFrom plan.sections origin)
         (R.remaining reader.old.inner) (R.remaining reader.new.inner) (reader.new.failed ≡ true)
-        (W.contents writer.old.inner) (W.contents writer.new.inner) (writer.new.failed ≡ true) result }
-    ensures flushed { OnOk result (writer.new.pending ≡ false) }
+        (O.printed outside.old) (O.printed outside.new) (O.has_failed outside.new) result }
+    ensures flushed { OnOk result (O.is_flushed outside.new) }
 {
     let threads = plan_of(plan);
     let (index, passes) = open_index(alloc, origin, plan.workers + plan.compressors)?;
-    match serve_with(rt, &index, passes, reader, writer, &OpenGate, threads) {
+    match serve_with(rt, &index, passes, reader, outside, &OpenGate, threads) {
         Ok((summary, _)) => Ok(summary),
         Err(fault) => Err(fault),
     }

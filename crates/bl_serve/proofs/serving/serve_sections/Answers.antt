@@ -16,7 +16,7 @@ use Rattle.bl_serve.proofs.serving.serve_sections.Goals as goal
 -- no memory at the start
 pub returns-in_err-ahead-clause-serves : goal.returns-in_err-ahead-clause-serves
 returns-in_err-ahead-clause-serves g c = let p = err_from_is_err_and c.from_residual.result c.from_residual.ensures.1 in
-    rw (p.1, p.2) (record { input = []; ahead = []; output = []; consumed = consumes_start _; wrote = appends_start _; ok = tt; fault = stops_inside c.args.service.now.sections (pages_of c.args.service.now.index.now) (first_of c.args.service.now.index.now) (seen_by (seats_of c.args.session.handles.items)) (seen_by (seats_of c.args.session.handles.items)) _ [] [] [] Memory (c.args.reader.now.failed ≡ true) (c.args.writer.now.failed ≡ true) (no_progress c.args.service.now.sections (pages_of c.args.service.now.index.now) (seen_by (seats_of c.args.session.handles.items)) c.args.session.totals c.requires.first) c.requires.met.may_be refl tt })
+    rw (p.1, p.2) (record { input = []; ahead = []; output = []; consumed = consumes_start _; wrote = appends_start _; ok = tt; fault = stops_inside c.args.service.now.sections (pages_of c.args.service.now.index.now) (first_of c.args.service.now.index.now) (seen_by (seats_of c.args.session.handles.items)) (seen_by (seats_of c.args.session.handles.items)) _ [] [] [] Memory (c.args.reader.now.failed ≡ true) (g.O.Outside.has_failed c.args.outside.now) (no_progress c.args.service.now.sections (pages_of c.args.service.now.index.now) (seen_by (seats_of c.args.session.handles.items)) c.args.session.totals c.requires.first) c.requires.met.may_be refl tt })
 
 pub loop-section-init : goal.loop-section-init
 loop-section-init g c = record {
@@ -35,7 +35,7 @@ loop-section-init g c = record {
 
 -- the section could not be read whole, or not be answered
 pub returns-in_err-back-clause-serves : goal.returns-in_err-back-clause-serves
-returns-in_err-back-clause-serves g c = let i = c.loop-section.invariant in let e = c.in_err-back.ensures in let p = err_from_is_err_and c.from_residual-in_err-back.result c.from_residual-in_err-back.ensures.1 in
+returns-in_err-back-clause-serves g c = let i = c.loop-section.invariant in let e = c.in_err-back.ensures.serves in let p = err_from_is_err_and c.from_residual-in_err-back.result c.from_residual-in_err-back.ensures.1 in
     rw (p.1, p.2) (record {
       input = i.input;
       ahead = c.loop-section.ahead.source ++ e.2;
@@ -44,7 +44,7 @@ returns-in_err-back-clause-serves g c = let i = c.loop-section.invariant in let 
       wrote = i.wrote;
       ok = tt;
       fault = stops_at_section c.args.service.now.sections (pages_of c.args.service.now.index.now) (first_of c.args.service.now.index.now) c.in_err-back.field-0.0 (seen_by (seats_of c.args.session.handles.items)) i.seen c.loop-section.session.totals i.input i.output (c.loop-section.ahead.source ++ e.2) e.4.0 e.1 e.0 (18446744073709551615 - c.loop-section.session.totals.requests)
-          (IsAtEnd (g.R.Read.remaining c.serve_section.new.reader.inner)) (c.serve_section.new.reader.failed ≡ true) (c.loop-section.writer.failed ≡ true) i.progress i.together.may_be e.4.1;
+          (IsAtEnd (g.R.Read.remaining c.serve_section.new.reader.inner)) (c.serve_section.new.reader.failed ≡ true) (g.O.Outside.has_failed c.loop-section.outside) i.progress i.together.may_be e.4.1;
     })
 
 pub serve_section-requires-clause-met : goal.serve_section-requires-clause-met
@@ -52,7 +52,7 @@ serve_section-requires-clause-met g c κs within = let i = c.loop-section.invari
 
 -- its output was not written whole
 pub returns-in-Err-clause-serves : goal.returns-in-Err-clause-serves
-returns-in-Err-clause-serves g c = let i = c.loop-section.invariant in let e = c.in_ok-back.ensures in let ends = e.4.0 in let counts = e.4.1 in let s = e.4.2 in
+returns-in-Err-clause-serves g c = let i = c.loop-section.invariant in let e = c.in_ok-back.ensures.serves in let ends = e.4.0 in let counts = e.4.1 in let s = e.4.2 in
     let w = c.in-Err.ensures.err in record {
       input = i.input;
       ahead = c.loop-section.ahead.source ++ e.2;
@@ -61,11 +61,11 @@ returns-in-Err-clause-serves g c = let i = c.loop-section.invariant in let e = c
       wrote = appends_more _ _ _ _ _ i.wrote w.3;
       ok = tt;
       fault = stops_at_write c.args.service.now.sections c.args.service.now.index.now i.seen c.loop-section.session.totals e.0 c.in_ok-back.end c.in_ok-back.back.text.items (seats_of c.loop-section.session.handles.items) (seats_of c.in_ok-back.back.handles.items) i.together i.some s (seen_by (seats_of c.args.session.handles.items)) i.input i.output (c.loop-section.ahead.source ++ e.2) c.serve_section.new.ahead.source e.1 w.0 w.1 (18446744073709551615 - c.loop-section.session.totals.requests)
-          (IsAtEnd (g.R.Read.remaining c.serve_section.new.reader.inner)) (c.serve_section.new.reader.failed ≡ true) (c.write_out.new.writer.failed ≡ true) i.progress ends (sym c.as_slice.ensures.value ∙ w.2) c.in-Err.ensures.failed;
+          (IsAtEnd (g.R.Read.remaining c.serve_section.new.reader.inner)) (c.serve_section.new.reader.failed ≡ true) (g.O.Outside.has_failed c.keep_and_print.new.outside) i.progress ends (sym c.as_slice.ensures.value ∙ w.2) c.in-Err.ensures.failed;
     }
 
 pub returns-then-ne-clause-serves : goal.returns-then-ne-clause-serves
-returns-then-ne-clause-serves g c = let i = c.loop-section.invariant in let e = c.in_ok-back.ensures in let ends = e.4.0 in let counts = e.4.1 in let s = e.4.2 in
+returns-then-ne-clause-serves g c = let i = c.loop-section.invariant in let e = c.in_ok-back.ensures.serves in let ends = e.4.0 in let counts = e.4.1 in let s = e.4.2 in
     let other : c.in_ok-back.end ≢ section_end.ByLine = search rules in
     let v = serves_at_end c.args.service.now.sections c.args.service.now.index.now i.seen c.loop-section.session.totals e.0 c.in_ok-back.end c.in_ok-back.back.text.items (seats_of c.loop-section.session.handles.items) (seats_of c.in_ok-back.back.handles.items) i.together i.some s (seen_by (seats_of c.args.session.handles.items)) c.in_ok-back.back.totals i.input i.output (c.loop-section.ahead.source ++ e.2) c.serve_section.new.ahead.source e.1
     (IsAtEnd (g.R.Read.remaining c.serve_section.new.reader.inner)) (c.serve_section.new.reader.failed ≡ true) other i.progress ends i.room counts in record {
@@ -79,7 +79,7 @@ returns-then-ne-clause-serves g c = let i = c.loop-section.invariant in let e = 
     }
 
 pub loop-section-preserved : goal.loop-section-preserved
-loop-section-preserved g c = let i = c.loop-section.invariant in let e = c.in_ok-back.ensures in let ends = e.4.0 in let counts = e.4.1 in let s = e.4.2 in
+loop-section-preserved g c = let i = c.loop-section.invariant in let e = c.in_ok-back.ensures.serves in let ends = e.4.0 in let counts = e.4.1 in let s = e.4.2 in
     let is : c.in_ok-back.end ≡ section_end.ByLine = search rules in
     let v = goes_on_behind_end c.args.service.now.sections c.args.service.now.index.now i.seen c.loop-section.session.totals e.0 c.in_ok-back.end c.in_ok-back.back.text.items (seats_of c.loop-section.session.handles.items) (seats_of c.in_ok-back.back.handles.items) i.together i.some s (seen_by (seats_of c.args.session.handles.items)) c.in_ok-back.back.totals i.input i.output (c.loop-section.ahead.source ++ e.2) c.serve_section.new.ahead.source e.1 (18446744073709551615 - c.loop-section.session.totals.requests)
     (IsAtEnd (g.R.Read.remaining c.serve_section.new.reader.inner)) (c.serve_section.new.reader.failed ≡ true) is i.progress ends counts in record {
@@ -104,7 +104,7 @@ returns-clause-serves g c = let i = c.loop-section.invariant in
       ahead = c.loop-section.ahead.source;
       output = i.output ++ [];
       consumed = subst (λ (t : List ℕ). Consumes (g.R.Read.remaining c.args.reader.now.inner) (g.R.Read.remaining c.loop-section.reader.inner) t) (ap (λ (t : List ℕ). i.input ++ t) v.read ∙ sym (append_assoc i.input v.consumed c.loop-section.ahead.source)) i.consumed;
-      wrote = subst (λ (t : List ℕ). Appends (g.W.Write.contents c.args.writer.now.inner) (g.W.Write.contents c.loop-section.writer.inner) t) (sym (append-nil i.output)) i.wrote;
+      wrote = subst (λ (t : List ℕ). Appends (g.O.Outside.printed c.args.outside.now) (g.O.Outside.printed c.loop-section.outside) t) (sym (append-nil i.output)) i.wrote;
       ok = (record { now = i.seen; served = v.served; together = i.together }, v.ends);
       fault = tt;
     }

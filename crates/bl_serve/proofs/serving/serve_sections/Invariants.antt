@@ -13,11 +13,11 @@ invariant-loop-section g l = record {
   output : List ℕ;
   seen : Trail;
   consumed : Consumes (g.R.Read.remaining l.fn.reader.inner) (g.R.Read.remaining l.reader.inner) (input ++ l.ahead.source);
-  wrote : Appends (g.W.Write.contents l.fn.writer.inner) (g.W.Write.contents l.writer.inner) output;
+  wrote : Appends (g.O.Outside.printed l.fn.outside) (g.O.Outside.printed l.outside) output;
   progress : Progress l.service.sections (pages_of l.service.index.now) (seen_by (seats_of l.fn.session.handles.items)) seen l.session.totals input output;
   together : AreTogether l.service.index.now seen (seats_of l.session.handles.items);
   some : 0 < length (seats_of l.session.handles.items);
   room : l.session.totals.requests < 2 ^ 64;
   number : l._section ≤ l.session.totals.requests;
-  flushed : 0 < l._section → l.writer.pending ≡ false;
+  flushed : 0 < l._section → g.O.Outside.is_flushed l.outside;
 }

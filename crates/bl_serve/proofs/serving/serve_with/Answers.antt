@@ -20,11 +20,11 @@ handles_over-requires g c = own_together c.args.index.now (seen_by c.args.passes
 -- no memory at the start
 pub returns-in_err-handles-clause-serves : goal.returns-in_err-handles-clause-serves
 returns-in_err-handles-clause-serves g c = let p = err_from_is_err_and c.from_residual.result c.from_residual.ensures.1 in
-    rw (p.1, p.2) (record { input = []; ahead = []; output = []; consumed = consumes_start _; wrote = appends_start _; ok = tt; fault = stops_inside c.args.plan.sections (pages_of c.args.index.now) (first_of c.args.index.now) (seen_by c.args.passes.items) (seen_by c.args.passes.items) _ [] [] [] Memory (c.args.reader.now.failed ≡ true) (c.args.writer.now.failed ≡ true) (no_progress c.args.plan.sections (pages_of c.args.index.now) (seen_by c.args.passes.items) (record { requests = 0; malformed = 0; sections = 0 }) (refl, refl, refl)) c.requires.together.may_be refl tt })
+    rw (p.1, p.2) (record { input = []; ahead = []; output = []; consumed = consumes_start _; wrote = appends_start _; ok = tt; fault = stops_inside c.args.plan.sections (pages_of c.args.index.now) (first_of c.args.index.now) (seen_by c.args.passes.items) (seen_by c.args.passes.items) _ [] [] [] Memory (c.args.reader.now.failed ≡ true) (g.O.Outside.has_failed c.args.outside.now) (no_progress c.args.plan.sections (pages_of c.args.index.now) (seen_by c.args.passes.items) (record { requests = 0; malformed = 0; sections = 0 }) (refl, refl, refl)) c.requires.together.may_be refl tt })
 
 pub returns-in_err-hints-clause-serves : goal.returns-in_err-hints-clause-serves
 returns-in_err-hints-clause-serves g c = let p = err_from_is_err_and c.from_residual-in_err-hints.result c.from_residual-in_err-hints.ensures.1 in
-    rw (p.1, p.2) (record { input = []; ahead = []; output = []; consumed = consumes_start _; wrote = appends_start _; ok = tt; fault = stops_inside c.args.plan.sections (pages_of c.args.index.now) (first_of c.args.index.now) (seen_by c.args.passes.items) (seen_by c.args.passes.items) _ [] [] [] Memory (c.args.reader.now.failed ≡ true) (c.args.writer.now.failed ≡ true) (no_progress c.args.plan.sections (pages_of c.args.index.now) (seen_by c.args.passes.items) (record { requests = 0; malformed = 0; sections = 0 }) (refl, refl, refl)) c.requires.together.may_be refl tt })
+    rw (p.1, p.2) (record { input = []; ahead = []; output = []; consumed = consumes_start _; wrote = appends_start _; ok = tt; fault = stops_inside c.args.plan.sections (pages_of c.args.index.now) (first_of c.args.index.now) (seen_by c.args.passes.items) (seen_by c.args.passes.items) _ [] [] [] Memory (c.args.reader.now.failed ≡ true) (g.O.Outside.has_failed c.args.outside.now) (no_progress c.args.plan.sections (pages_of c.args.index.now) (seen_by c.args.passes.items) (record { requests = 0; malformed = 0; sections = 0 }) (refl, refl, refl)) c.requires.together.may_be refl tt })
 
 pub begun-requires : goal.begun-requires
 begun-requires g c =
@@ -34,7 +34,7 @@ begun-requires g c =
 
 pub returns-in_err-fresh-clause-serves : goal.returns-in_err-fresh-clause-serves
 returns-in_err-fresh-clause-serves g c = let p = err_from_is_err_and c.from_residual-in_err-fresh.result c.from_residual-in_err-fresh.ensures.1 in
-    rw (p.1, p.2) (record { input = []; ahead = []; output = []; consumed = consumes_start _; wrote = appends_start _; ok = tt; fault = stops_inside c.args.plan.sections (pages_of c.args.index.now) (first_of c.args.index.now) (seen_by c.args.passes.items) (seen_by c.args.passes.items) _ [] [] [] Memory (c.args.reader.now.failed ≡ true) (c.args.writer.now.failed ≡ true) (no_progress c.args.plan.sections (pages_of c.args.index.now) (seen_by c.args.passes.items) (record { requests = 0; malformed = 0; sections = 0 }) (refl, refl, refl)) c.requires.together.may_be refl tt })
+    rw (p.1, p.2) (record { input = []; ahead = []; output = []; consumed = consumes_start _; wrote = appends_start _; ok = tt; fault = stops_inside c.args.plan.sections (pages_of c.args.index.now) (first_of c.args.index.now) (seen_by c.args.passes.items) (seen_by c.args.passes.items) _ [] [] [] Memory (c.args.reader.now.failed ≡ true) (g.O.Outside.has_failed c.args.outside.now) (no_progress c.args.plan.sections (pages_of c.args.index.now) (seen_by c.args.passes.items) (record { requests = 0; malformed = 0; sections = 0 }) (refl, refl, refl)) c.requires.together.may_be refl tt })
 
 pub serve_sections-requires-clause-met : goal.serve_sections-requires-clause-met
 serve_sections-requires-clause-met g c κs within =
@@ -52,7 +52,7 @@ returns-in_err-session-clause-serves g c = let p = err_from_is_err_and c.from_re
       consumed = h.consumed;
       wrote = h.wrote;
       ok = tt;
-      fault = subst (λ (z : List Pass). Stops c.args.plan.sections (pages_of c.args.index.now) (map_after (first_of c.args.index.now) (seen_by z)) (h.input ++ h.ahead) h.output c.in_err-session.field-0.0 (c.serve_sections.new.reader.failed ≡ true) (c.serve_sections.new.writer.failed ≡ true)) seats h.fault;
+      fault = subst (λ (z : List Pass). Stops c.args.plan.sections (pages_of c.args.index.now) (map_after (first_of c.args.index.now) (seen_by z)) (h.input ++ h.ahead) h.output c.in_err-session.field-0.0 (c.serve_sections.new.reader.failed ≡ true) (g.O.Outside.has_failed c.serve_sections.new.outside)) seats h.fault;
     })
 
 pub give_seats-requires : goal.give_seats-requires

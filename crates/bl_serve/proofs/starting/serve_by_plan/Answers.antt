@@ -33,5 +33,5 @@ returns-clause-serves g c =
       consumed = h.consumed;
       wrote = h.wrote;
       ok = tt;
-      fault = stops_from c.args.plan.sections c.args.origin _ c.in_ok-index.index c.in_ok-index.passes.items c.in_ok-index.ensures (h.input ++ h.ahead) h.output c.in-Err.fault (c.serve_with.new.reader.failed ≡ true) (c.serve_with.new.writer.failed ≡ true) s;
+      fault = stops_from c.args.plan.sections c.args.origin _ c.in_ok-index.index c.in_ok-index.passes.items c.in_ok-index.ensures (h.input ++ h.ahead) h.output c.in-Err.fault (c.serve_with.new.reader.failed ≡ true) (g.O.Outside.has_failed c.serve_with.new.outside) s;
     }
