@@ -153,9 +153,6 @@ pub record TakeSo (old places : List (Option Seat)) (seats : List Seat) (i : ℕ
   pub many : length seats ≡ i
   pub left : places ≡ closed i ++ drop i old
 
-pub none_taken : (old : List (Option Seat)) → TakeSo old old [] 0
-none_taken old = record { taken = refl; many = refl; left = refl }
-
 -- what stands at the next place
 pub next_is : (old places : List (Option Seat)) (seats : List Seat) (i : ℕ) (a : Option Seat) → i < length old → get_elem? places i ≡ some a → TakeSo old places seats i → get_elem? old i ≡ some a
 next_is old places seats i a lt at s =

@@ -45,9 +45,6 @@ seat_still a b c p index hand = (index ∙ p.0, subst (IsSameOne a.hand) (sym ha
 
 -- ---- pieces
 
-pub pieces_same : (a b : Upkeep) → b ≡ a → ArePieces a b
-pieces_same a b is = (ap (λ (z : Upkeep). z.waiting) is, ap (λ (z : Upkeep). z.may_fall) is, ap (λ (z : Upkeep). z.doing) is)
-
 pub tends_swept : {n k : ℕ} {a b c : Seat} → Tends n a b → Swept k b c → Tends n a c
 tends_swept t Swept.Never = t
 tends_swept t (Swept.Again w s) = Tends.Sweeps (tends_swept t w) s

@@ -58,11 +58,6 @@ before_so Up (Some end) key is = grind (arith, nat_tests, is)
 before_so Down None key is = tt
 before_so Down (Some end) key is = grind (arith, nat_tests, is)
 
--- from there on nothing of a scan is left
-pub past_none : (direction : Direction) (end : Option ℕ) → IsPast direction end None
-past_none Up end = tt
-past_none Down end = tt
-
 pub past : (direction : Direction) (end : Option ℕ) (key : ℕ) → is_before direction end key ≡ false → IsPast direction end (Some key)
 past Up None key fails = let none : ⊥ = cc in absurd none
 past Up (Some end) key fails = grind (arith, nat_tests, fails)

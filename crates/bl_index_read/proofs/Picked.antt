@@ -186,12 +186,6 @@ module _ (words : List ℕ) (long : length words ≡ 32) (pairs : HasPairs words
     behind = λ i low lt. omega (arith, none i (omega arith) (let n = count_is in omega (arith, n, lt)));
   }
 
-  -- so many rows stand there
-  pub between_length : (from : ℕ) (to : Option ℕ) (first last : ℕ) → IsPlaceOf (pairs_of words) from first → EndsBefore (pairs_of words) to first last → length (rows_between from to (pairs_of words)) ≡ last - first
-  between_length from to first last place e =
-      let within : last - first ≤ length (drop first (pairs_of words)) = let long = length-drop first (pairs_of words) in let range = e.in_range in let low = e.behind in omega arith in
-      ap length (sym (between_rows (pairs_of words) from to first last place e)) ∙ length_take (last - first) (drop first (pairs_of words)) within
-
   -- all rows behind a place
   pub all_rows : (from first last : ℕ) → IsPlaceOf (pairs_of words) from first → last ≡ count_in words → take (last - first) (drop first (pairs_of words)) ≡ rows_from from (pairs_of words)
   all_rows from first last place is =

@@ -88,11 +88,6 @@ few_before until row = go (is_before until row.0) refl
     go true is = let e = ap length (one_before until row is) in omega (arith, e)
     go false is = let e = ap length (none_before until row is) in omega (arith, e)
 
-pub one_shown : (most : ℕ) (row : ℕ × ℕ) → most ≢ 0 → take most (row ∷ []) ≡ row ∷ []
-one_shown zero row some = absurd (some refl)
-one_shown (suc zero) row some = refl
-one_shown (suc (suc most)) row some = refl
-
 -- what lists rows, and does not count them, prints them
 pub told_rows : (asked : Listing) (rows : List (ℕ × ℕ)) → ((low high : ℕ) → asked ≢ listing.Count low high) → told_text (scan_of asked).tells rows ≡ codes "rows" ++ flat_map row_text (shown (scan_of asked).tells rows)
 told_rows (listing.Scan low high None) rows other = refl
