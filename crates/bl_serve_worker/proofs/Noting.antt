@@ -1,6 +1,6 @@
 -- What is noted of the entries of a handle, one after another.
 use Rattle.std.proofs.Common.{◌≡◌, ℕ, List, [], ◌∷◌, ◌++◌, true, false, refl, sym, ap, ◌∙◌, subst, append-nil, append_assoc}
-use Rattle.std.specs.Prelude.{◌||◌, Bool, Option, Some, None, Result, Ok, Err, OnOk, is_err, flat_map}
+use Rattle.std.specs.Prelude.{◌||◌, Bool, Option, Some, None, Result, Ok, Err, OnOk, is_err}
 use Rattle.std.proofs.lemmas.List.Concat.{flat_map-append}
 use Rattle.bl_model.specs.declared.operation.Entry.{Entry}
 use Rattle.bl_model.specs.declared.operation.Op.{Op}

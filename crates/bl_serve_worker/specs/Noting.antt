@@ -1,5 +1,5 @@
 -- What a worker notes of the rows that its writes change.
-use Rattle.std.specs.Prelude.{◌≡◌, ℕ, ◌++◌, List, true, false}
+use Rattle.std.specs.Prelude.{◌≡◌, ℕ, ◌++◌, true, false}
 use Rattle.bl_model.specs.declared.operation.Op.{Op}
 use Rattle.bl_model.specs.declared.operation.Reply.{Reply}
 use Rattle.bl_changes.specs.declared.changes.Changes.{Changes}
