@@ -1,6 +1,6 @@
 //! Where a server prints its replies, and where it keeps what was changed before it prints them.
 
-ghost use Rattle.std.specs.Prelude.{◌≡◌, ◌⊎◌, ℕ, List, Option, true, false, OnOk, OnErr};
+ghost use Rattle.std.specs.Prelude.{◌≡◌, ◌↔◌, ◌⊎◌, ℕ, List, Option, true, false, OnOk, OnErr};
 ghost use Rattle.std.specs.Io.KnownBytes.{Appends, Keeps};
 ghost use Rattle.bl_model.specs.Stream.{StartsOut};
 ghost use Rattle.bl_journal.specs.Logs.{IsLogOf};
@@ -54,7 +54,7 @@ pub trait Outside {
         requires log { is_modelled self.old → (m : ℕ → Option ℕ) × holds self.old m }
         ensures printed { Keeps (printed self.old) (printed self.new) }
         ensures failed { OnErr result (has_failed self.new) }
-        ensures modelled { is_modelled self.old → is_modelled self.new }
+        ensures modelled { is_modelled self.old ↔ is_modelled self.new }
         ensures kept { is_modelled self.old → (old new : ℕ → Option ℕ) → holds self.old old → Leads came.now went.now old new → OnOk result (holds self.new new) }
         ensures any_moment { is_modelled self.old → (old new : ℕ → Option ℕ) → holds self.old old → Leads came.now went.now old new
             → FindsOnly moment finds self.old self.new (λ told left. Keeps (printed self.old) told × (IsLogOf left old ⊎ IsLogOf left new)) };
@@ -65,7 +65,7 @@ pub trait Outside {
         ensures flushed { OnOk result (is_flushed self.new) }
         ensures err { OnErr result (StartsOut (printed self.old) (printed self.new) text.now) }
         ensures failed { OnErr result (has_failed self.new) }
-        ensures modelled { is_modelled self.old → is_modelled self.new }
+        ensures modelled { is_modelled self.old ↔ is_modelled self.new }
         ensures kept { is_modelled self.old → (m : ℕ → Option ℕ) → holds self.old m → OnOk result (holds self.new m) }
         ensures any_moment { is_modelled self.old → (m : ℕ → Option ℕ) → holds self.old m
             → FindsOnly moment finds self.old self.new (λ told left. StartsOut (printed self.old) told text.now × IsLogOf left m) };
@@ -119,7 +119,7 @@ pub fn keep_and_print<O: Outside>(
     ensures flushed { OnOk result (O.is_flushed outside.new) }
     ensures err { OnErr result (StartsOut (O.printed outside.old) (O.printed outside.new) text.now) }
     ensures failed { OnErr result (O.has_failed outside.new) }
-    ensures modelled { O.is_modelled outside.old → O.is_modelled outside.new }
+    ensures modelled { O.is_modelled outside.old ↔ O.is_modelled outside.new }
     ensures kept { O.is_modelled outside.old → (old new : ℕ → Option ℕ) → O.holds outside.old old
         → Leads changes.now.came.items changes.now.went.items old new → OnOk result (O.holds outside.new new) }
     // A crash at any moment of the call finds no text that its log does not account for.

@@ -18,5 +18,5 @@ returns-clause-any_moment g c = λ modelled old new held leads'.
     (finds_less g.O.Outside.moment g.O.Outside.finds c.args.outside.now c.keep.new.self _ (KeepsFirst (g.O.Outside.printed c.args.outside.now) c.args.text.now old new)
     (c.keep.ensures.any_moment modelled old new held leads) (keeps_first (g.O.Outside.printed c.args.outside.now) c.args.text.now old new))
     (finds_less g.O.Outside.moment g.O.Outside.finds c.keep.new.self c.print.new.self _ (KeepsFirst (g.O.Outside.printed c.args.outside.now) c.args.text.now old new)
-    (c.print.ensures.any_moment (c.keep.ensures.modelled modelled) new (c.in_ok-keep.ensures.kept modelled old new held leads))
+    (c.print.ensures.any_moment (c.keep.ensures.modelled.0 modelled) new (c.in_ok-keep.ensures.kept modelled old new held leads))
     (λ told left. prints_then (g.O.Outside.printed c.args.outside.now) (g.O.Outside.printed c.keep.new.self) c.args.text.now old new told left c.keep.ensures.printed))
