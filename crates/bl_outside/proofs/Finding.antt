@@ -20,9 +20,6 @@ appends_none None b same = tt
 appends_none (Some x) None same = absurd same
 appends_none (Some x) (Some y) same = same ∙ sym (append-nil x)
 
-pub printed_then : (a b c : Option (List ℕ)) (text : List ℕ) → Keeps a b → Appends b c text → Appends a c text
-printed_then a b c text same more = kept_appends a b c text same more
-
 pub starts_then : (a b c : Option (List ℕ)) (text : List ℕ) → Keeps a b → StartsOut b c text → StartsOut a c text
 starts_then a b c text same s = (s.0, s.1, s.2, kept_appends a b c s.0 same s.3)
 

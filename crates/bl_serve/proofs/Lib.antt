@@ -18,3 +18,4 @@ pub mod Beginning
 pub mod Leaving
 pub mod Noting
 pub mod Led
+pub mod Surviving

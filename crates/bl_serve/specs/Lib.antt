@@ -6,6 +6,7 @@ pub mod Noting
 pub mod Reading
 pub mod Sections
 pub mod Serving
+pub mod Surviving
 pub mod Origins
 pub mod Dumps
 pub mod Begun

@@ -213,8 +213,10 @@ fn collect_changes(slots: &[Slot], changes: &mut Changes) -> Result<(), AllocErr
     ensures came { OnOk result (changes.new.came.items ≡ changes.old.came.items ++ flat_map (λ s. s.changes.came.items) slots.now) }
     ensures went { OnOk result (changes.new.went.items ≡ changes.old.went.items ++ flat_map (λ s. s.changes.went.items) slots.now) }
 {
-    for number in 0..slots.len() {
-        changes.take(&slots[number].changes)?;
+    let mut rest = slots;
+    while let [slot, after @ ..] = rest {
+        changes.take(&slot.changes)?;
+        rest = after;
     }
     Ok(())
 }

@@ -6,13 +6,14 @@ ghost use Rattle.bl_serve_lines.specs.Served.{Stops};
 ghost use Rattle.bl_index.specs.Calls.{first_of, pages_of, map_after};
 ghost use Rattle.bl_map.specs.Handles.{seats_of};
 ghost use Rattle.bl_journal.specs.Rows.{Leads};
+ghost use Rattle.bl_outside.specs.Crashes.{FindsOnly};
 ghost use Rattle.bl_serve.specs.Noting.{StillNote};
 ghost use Rattle.bl_serve.specs.Reading.{EndsReading, ReadsOn};
 ghost use Rattle.bl_serve.specs.Sections.{CountsSection, rests};
+ghost use Rattle.bl_serve.specs.Surviving.{Survives};
 ghost use Rattle.bl_serve.specs.Serving.{AreMet, AreTogether, EndsServing, FailsSection, IsInside, Serves, ServesSection, seen_by};
 
 use crate::chunks::{new_slots, run_chunk};
-use crate::outside::{Outside, keep_and_print};
 use crate::parsed_lines::ParsedLines;
 use crate::section_reader::{ReadAhead, SectionEnd, read_on};
 use crate::session::{Session, ThreadPlan};
@@ -22,6 +23,7 @@ use bl_hints::Hints;
 use bl_index::{Index, Pass};
 use bl_map::{Handle, give_seats, handles_over};
 use bl_model::Watched;
+use bl_outside::{Outside, keep_and_print};
 use bl_serve_lines::print::{Response, push_line};
 use bl_serve_lines::request::Request;
 use bl_serve_lines::{Sectioning, ServeFault, Totals};
@@ -198,11 +200,17 @@ fn serve_sections<'a, T: Threads + Wait + Sync, R: Read, O: Outside, G: Gate + S
 ) -> Result<Session<'a>, ServeFault>
     requires met { AreMet service.now.index.now session.handles.items }
     requires first { (session.totals.requests ≡ 0) × (session.totals.malformed ≡ 0) × (session.totals.sections ≡ 0) }
+    requires log { O.is_modelled outside.old → (service.now.keeps ≡ true)
+        × O.holds outside.old (map_after (first_of service.now.index.now) (seen_by (seats_of session.handles.items))) }
     ensures serves { EndsServing (λ s. Serves service.now.sections service.now.index.now (seats_of session.entry.handles.items) (seats_of s.handles.items) s.totals)
         (Stops service.now.sections (pages_of service.now.index.now) (map_after (first_of service.now.index.now) (seen_by (seats_of session.entry.handles.items))))
         (R.remaining reader.old.inner) (R.remaining reader.new.inner) (reader.new.failed ≡ true)
         (O.printed outside.old) (O.printed outside.new) (O.has_failed outside.new) result }
     ensures flushed { OnOk result (O.is_flushed outside.new) }
+    // What a crash finds at any moment.
+    ensures any_moment { O.is_modelled outside.old → (read : List ℕ) × Consumes (R.remaining reader.old.inner) (R.remaining reader.new.inner) read
+        × FindsOnly O.moment O.finds outside.old outside.new (Survives service.now.sections (pages_of service.now.index.now)
+        (map_after (first_of service.now.index.now) (seen_by (seats_of session.entry.handles.items))) read (O.printed outside.old)) }
 {
     let mut ahead = ReadAhead::new(service.alloc)?;
     let mut lines = ParsedLines::new(service.alloc);
@@ -292,8 +300,10 @@ pub fn serve<T: Threads + Wait + Sync, R: Read, W: Write, G: Gate + Sync>(
     }
 }
 
-/// The same by a plan, which may have fewer threads for few requests, and other sections. What was changed is kept before it is
-/// answered, where that is wanted; and it tells what else was counted.
+/// The same by a plan, which may have fewer threads for few requests, and other sections; and it tells what else was counted. Where the
+/// outside keeps a log, this is the log of the map that the passes have seen, and what a section has changed is kept before its replies are
+/// printed: after a crash at any moment the log has all operations of each line whose reply was printed, each once; of the section under
+/// way all or none; and of lines behind it none.
 pub fn serve_with<T: Threads + Wait + Sync, R: Read, O: Outside, G: Gate + Sync>(
     rt: &T,
     index: &Index,
@@ -305,11 +315,16 @@ pub fn serve_with<T: Threads + Wait + Sync, R: Read, O: Outside, G: Gate + Sync>
 ) -> Result<(Summary, Vec<Pass>), ServeFault>
     requires together { AreTogether index.now (seen_by passes.items) passes.items }
     requires some { 0 < vec_len passes }
+    requires log { O.is_modelled outside.old → O.holds outside.old (map_after (first_of index.now) (seen_by passes.items)) }
     ensures serves { EndsServing (λ t. Serves plan.sections index.now passes.items t.1.items t.0.totals)
         (Stops plan.sections (pages_of index.now) (map_after (first_of index.now) (seen_by passes.items)))
         (R.remaining reader.old.inner) (R.remaining reader.new.inner) (reader.new.failed ≡ true)
         (O.printed outside.old) (O.printed outside.new) (O.has_failed outside.new) result }
     ensures flushed { OnOk result (O.is_flushed outside.new) }
+    // What a crash finds at any moment.
+    ensures any_moment { O.is_modelled outside.old → (read : List ℕ) × Consumes (R.remaining reader.old.inner) (R.remaining reader.new.inner) read
+        × FindsOnly O.moment O.finds outside.old outside.new
+        (Survives plan.sections (pages_of index.now) (map_after (first_of index.now) (seen_by passes.items)) read (O.printed outside.old)) }
 {
     let mut passes = passes;
     let handles = handles_over(index, &mut passes)?;

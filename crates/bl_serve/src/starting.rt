@@ -3,17 +3,21 @@
 ghost use Rattle.std.specs.Prelude.{◌≡◌, ◌+◌, ◌^◌, ◌≤◌, ℕ, List, [], ◌++◌, true, IfOk, MatchResult, false, OnOk};
 ghost use Rattle.bl_index.specs.Opened.{IsBegun, IsReopened};
 ghost use Rattle.bl_serve.specs.Begun.{IsBegunFrom};
-ghost use Rattle.bl_serve.specs.Origins.{HasPages, MayServe, ServedFrom, StopsFrom};
+ghost use Rattle.bl_serve.specs.Origins.{HasPages, HasRows, MayServe, ServedFrom, StopsFrom, size_of};
+ghost use Rattle.bl_serve.specs.Surviving.{Survives};
 ghost use Rattle.bl_serve.specs.Serving.{EndsServing};
+ghost use Rattle.bl_model.specs.Rows.{map_of};
+ghost use Rattle.bl_outside.specs.Crashes.{FindsOnly};
+ghost use Rattle.std.specs.Io.KnownBytes.{Consumes};
 
 use crate::origin::Origin;
-use crate::outside::Outside;
 use crate::serving::serve_with;
 use crate::session::{ServePlan, ThreadPlan};
 use crate::summary::Summary;
 use bl_check::Quiet;
 use bl_index::{Config, Index, OpenFault, Pass};
 use bl_model::Watched;
+use bl_outside::Outside;
 use bl_serve_lines::{Sectioning, ServeFault, Totals};
 use bl_serve_worker::OpenGate;
 use std::alloc::{AllocError, Global};
@@ -120,10 +124,15 @@ pub fn serve_by_plan<T: Threads + Wait + Sync, R: Read, O: Outside>(
 ) -> Result<Summary, ServeFault>
     requires pages { HasPages origin }
     requires passes { MayServe plan }
+    requires log { O.is_modelled outside.old → (rows : List (ℕ × ℕ)) × HasRows origin rows × O.holds outside.old (map_of rows) }
     ensures serves { EndsServing (λ s. ServedFrom plan.sections origin s.totals) (StopsFrom plan.sections origin)
         (R.remaining reader.old.inner) (R.remaining reader.new.inner) (reader.new.failed ≡ true)
         (O.printed outside.old) (O.printed outside.new) (O.has_failed outside.new) result }
     ensures flushed { OnOk result (O.is_flushed outside.new) }
+    // What a crash finds at any moment.
+    ensures any_moment { O.is_modelled outside.old → (rows : List (ℕ × ℕ)) → HasRows origin rows
+        → (read : List ℕ) × Consumes (R.remaining reader.old.inner) (R.remaining reader.new.inner) read
+        × FindsOnly O.moment O.finds outside.old outside.new (Survives plan.sections (size_of origin) (map_of rows) read (O.printed outside.old)) }
 {
     let threads = plan_of(plan);
     let (index, passes) = open_index(alloc, origin, plan.workers + plan.compressors)?;

@@ -1,5 +1,5 @@
-use Rattle.std.proofs.Common.{◌≡◌, ◌<◌, ◌++◌, ◌∙◌, ap, sym, subst, suc, arith, ℕ, List, length}
-use Rattle.std.specs.Prelude.{All, Option}
+use Rattle.std.proofs.Common.{◌≡◌, ◌<◌, ◌++◌, ◌∙◌, ap, sym, subst, suc, arith, false, ℕ, List, length}
+use Rattle.std.specs.Prelude.{All, Option, flat_map}
 use Rattle.bl_serve_lines.specs.declared.request.Request.{Request}
 use Rattle.bl_index.specs.Calls.{first_of, pages_of}
 use Rattle.bl_serve_worker.specs.declared.chunk.Slot.{Slot}
@@ -65,7 +65,8 @@ returns-clause-noted g c keeps =
     let session = c.args.session in
     let t = rw keeps at c.in_ok-work_abreast.ensures.turns in
     let long = (turns_long _ _ _ _ _ _ _ t).1 in let slots = session.paired in let a = session.handles.ok in
-    let came = c.in_ok-collect_changes.ensures.came in let went = c.in_ok-collect_changes.ensures.went in
+    let same = c.as_slice-4.ensures.value ∙ lent _ _ c.work_abreast.new.slots (omega (arith, long, slots, a)) in
     still_note _ _ _ session.handles.items c.work_abreast.new.handles.items c.work_abreast.new.slots session.changes c.collect_changes.new.changes t
     (subst (All (λ (s : Slot). s.failed ≡ false)) (lent _ _ c.work_abreast.new.slots (omega (arith, long, slots, a))) c.in_ok-outputs.ensures.collects.none_failed)
-    ? ?
+    (c.in_ok-collect_changes.ensures.came ∙ ap (λ (z : List Slot). session.changes.came.items ++ flat_map (λ s. s.changes.came.items) z) same)
+    (c.in_ok-collect_changes.ensures.went ∙ ap (λ (z : List Slot). session.changes.went.items ++ flat_map (λ s. s.changes.went.items) z) same)
