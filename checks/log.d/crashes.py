@@ -30,16 +30,16 @@ class Call:
         self.name, self.number, self.files, self.at, self.data, self.creates = name, number, files, at, data, creates
 
 
-def calls_of(command, given, folder):
-    """The calls of a command that concern the folder, in their order."""
+def calls_of(command, given, folder, prints=False):
+    """The calls of a command that concern the folder, in their order; and those by which it prints, if they are wanted."""
     trace = os.path.join(os.path.dirname(folder), "trace")
     ran = ["strace", "-f", "-xx", "-s", "4000000", "-e", f"trace={','.join(CALLS)}", "-o", trace, *command]
     subprocess.run(ran, input=given, text=True, capture_output=True, check=True)
     with open(trace, encoding="ascii") as file:
-        return list(concerning(folder, file))
+        return list(concerning(folder, file, prints))
 
 
-def concerning(folder, lines):
+def concerning(folder, lines, prints):
     counts, files, places = {}, {}, {}
     for line in lines:
         told = LINE.match(line)
@@ -57,6 +57,8 @@ def concerning(folder, lines):
             files.update((held, about[1]) for held, path in files.items() if path == about[0])
         else:
             about = [files.get(handle, "")]
+        if prints and name == "write" and handle == "1":
+            yield Call("print", counts[name], [""], data=texts[0][:answer])
         if not about[0].startswith(folder):
             continue
         yield Call(name, counts[name], about, places.get(handle, 0), texts[0] if name == "write" else b"", "O_CREAT" in words)

@@ -7,9 +7,10 @@
 
 mod logs;
 
-ghost use Rattle.std.specs.Prelude.{◌≤◌, ◌^◌, IfOk};
+ghost use Rattle.std.specs.Prelude.{◌≤◌, ◌^◌, ℕ, List, IfOk};
+ghost use Rattle.bl_model.specs.Rows.{map_of};
 ghost use Rattle.bl_serve_lines.specs.Options.{AreWithin};
-ghost use Rattle.bl_serve.specs.Origins.{HasPages, MayServe};
+ghost use Rattle.bl_serve.specs.Origins.{HasPages, HasRows, MayServe};
 
 use bl_check::Quiet;
 use bl_cli_commands::{
@@ -22,7 +23,9 @@ use bl_cli_streams::{
     may_replace, noroom_line, replace_file, section_line, stats_line, used_pages,
 };
 use bl_model::Watched;
-use bl_serve::{Origin, Sectioning, ServeFault, ServePlan, Summary, dump_by_plan, serve_by_plan};
+use bl_serve::{
+    Origin, Outside, Sectioning, ServeFault, ServePlan, Summary, dump_by_plan, serve_by_plan,
+};
 use clap::Error;
 use clap::error::ErrorKind;
 use std::alloc::AllocError;
@@ -80,7 +83,7 @@ fn carry_out<T: Threads + Wait + Sync>(
 }
 
 /// Says a line on standard error. Where that fails, or there was no memory for the line, the status still tells the fault.
-fn say(rt: &HostRuntime, line: Result<Option<String>, AllocError>) {
+pub(crate) fn say(rt: &HostRuntime, line: Result<Option<String>, AllocError>) {
     if let Ok(Some(line)) = line {
         let _ = eprintln!(rt; "{line}");
     }
@@ -160,7 +163,7 @@ fn replay(rt: &HostRuntime, file: &str, with_pages: bool) -> ExitCode {
 
 /// What a server begins with: the image in that file, where one is named. Where it cannot be had, that is said, and how the
 /// program ends.
-fn origin_of(rt: &HostRuntime, pages: u32, image: Option<&str>) -> Result<Origin, ExitCode>
+pub(crate) fn origin_of(rt: &HostRuntime, pages: u32, image: Option<&str>) -> Result<Origin, ExitCode>
     requires { (4 ≤ pages) × (pages ≤ 2 ^ 28) }
     ensures { IfOk result HasPages }
 {
@@ -175,7 +178,7 @@ fn origin_of(rt: &HostRuntime, pages: u32, image: Option<&str>) -> Result<Origin
 
 /// What a server has counted at its end.
 #[derive(Clone, Copy)]
-struct Counts {
+pub(crate) struct Counts {
     summary: Summary,
     /// The pages, where the index was closed.
     usage: Option<Usage>,
@@ -197,7 +200,7 @@ fn say_wanted(rt: &HostRuntime, server: &Server)
 
 /// Ends as a server that has met a fault, where these replies were written. Where whoever read them has gone, the status alone
 /// tells it.
-fn end_serving(rt: &HostRuntime, server: &Server, fault: ServeFault, writer: Output<'_>) -> ExitCode
+pub(crate) fn end_serving(rt: &HostRuntime, server: &Server, fault: ServeFault, writer: Output<'_>) -> ExitCode
     requires { AreWithin server.now.options }
 {
     let fault = CommandFault::from(fault);
@@ -216,7 +219,7 @@ fn end_serving(rt: &HostRuntime, server: &Server, fault: ServeFault, writer: Out
 
 /// Says that requests were malformed, where some were. Then says what was counted, where that was asked for; else, that requests found
 /// no room, where some did.
-fn say_counts(rt: &HostRuntime, server: &Server, counts: &Counts) {
+pub(crate) fn say_counts(rt: &HostRuntime, server: &Server, counts: &Counts) {
     let alloc = rt.alloc();
     let Summary { totals, remarks } = counts.summary;
     let (norooms, pages) = (remarks.norooms, server.options.pages);
@@ -249,62 +252,82 @@ fn plan_of(server: &Server) -> ServePlan
 }
 
 /// Serves standard input over an index that begins so, and closes it.
-fn serve_and_close<T: Threads + Wait + Sync>(
+fn serve_and_close<T: Threads + Wait + Sync, O: Outside>(
     rt: &HostRuntime,
     threads: &T,
     origin: Origin,
     plan: ServePlan,
-    writer: &mut Output<'_>,
+    outside: &mut O,
 ) -> Result<(Summary, Result<Quiet, AllocError>), ServeFault>
     requires pages { HasPages origin }
     requires passes { MayServe plan }
+    requires log { O.is_modelled outside.old → (rows : List (ℕ × ℕ)) × HasRows origin rows × O.holds outside.old (map_of rows) }
 {
     let mut reader = Watched::new(rt.stdin());
-    dump_by_plan(threads, rt.alloc(), origin, plan, &mut reader, writer)
+    dump_by_plan(threads, rt.alloc(), origin, plan, &mut reader, outside)
 }
 
 /// The same, and leaves the index open.
-fn serve_alone<T: Threads + Wait + Sync>(
+fn serve_alone<T: Threads + Wait + Sync, O: Outside>(
     rt: &HostRuntime,
     threads: &T,
     origin: Origin,
     plan: ServePlan,
-    writer: &mut Output<'_>,
+    outside: &mut O,
 ) -> Result<Summary, ServeFault>
     requires pages { HasPages origin }
     requires passes { MayServe plan }
+    requires log { O.is_modelled outside.old → (rows : List (ℕ × ℕ)) × HasRows origin rows × O.holds outside.old (map_of rows) }
 {
     let mut reader = Watched::new(rt.stdin());
-    serve_by_plan(threads, rt.alloc(), origin, plan, &mut reader, writer)
+    serve_by_plan(threads, rt.alloc(), origin, plan, &mut reader, outside)
 }
 
 /// Serves standard input over an index that begins so. With `--stats` the index is closed at the end, so that its pages can be
-/// counted. Where a fault comes, it is said, and this is how the program ends.
-fn serve_from<T: Threads + Wait + Sync>(
+/// counted.
+pub(crate) fn serve_from<T: Threads + Wait + Sync, O: Outside>(
     rt: &HostRuntime,
     threads: &T,
     origin: Origin,
     server: &Server,
-) -> Result<Counts, ExitCode>
+    outside: &mut O,
+) -> Result<Counts, ServeFault>
     requires pages { HasPages origin }
     requires within { AreWithin server.now.options }
+    requires log { O.is_modelled outside.old → (rows : List (ℕ × ℕ)) × HasRows origin rows × O.holds outside.old (map_of rows) }
 {
     let plan = plan_of(server);
-    let mut writer = output(rt);
-    let served = if server.stats {
-        serve_and_close(rt, threads, origin, plan, &mut writer).map(|(summary, closed)| Counts {
-            summary,
-            usage: closed.ok().map(|quiet| used_pages(quiet.image())),
-        })
-    } else {
-        serve_alone(rt, threads, origin, plan, &mut writer).map(|summary| Counts {
+    if !server.stats {
+        let summary = serve_alone(rt, threads, origin, plan, outside)?;
+        return Ok(Counts {
             summary,
             usage: None,
-        })
+        });
+    }
+    let (summary, closed) = serve_and_close(rt, threads, origin, plan, outside)?;
+    let usage = closed.ok().map(|quiet| used_pages(quiet.image()));
+    Ok(Counts { summary, usage })
+}
+
+/// Serves standard input, and keeps no log.
+fn serve_plainly<T: Threads + Wait + Sync>(
+    rt: &HostRuntime,
+    threads: &T,
+    server: &Server,
+) -> ExitCode
+    requires { AreWithin server.now.options }
+{
+    let origin = match origin_of(rt, server.options.pages, server.image.as_deref()) {
+        Ok(origin) => origin,
+        Err(code) => return code,
     };
-    match served {
-        Ok(counts) => Ok(counts),
-        Err(fault) => Err(end_serving(rt, server, fault, writer)),
+    let mut writer = output(rt);
+    match serve_from(rt, threads, origin, server, &mut writer) {
+        Ok(counts) => {
+            say_counts(rt, server, &counts);
+            ExitCode::SUCCESS
+        }
+        Err(fault) => end_serving(rt, server, fault, writer),
     }
 }
 
@@ -312,16 +335,9 @@ fn serve_from<T: Threads + Wait + Sync>(
 fn serve<T: Threads + Wait + Sync>(rt: &HostRuntime, threads: &T, server: Server) -> ExitCode
     requires { AreWithin server.options }
 {
-    let origin = match origin_of(rt, server.options.pages, server.image.as_deref()) {
-        Ok(origin) => origin,
-        Err(code) => return code,
-    };
-    match serve_from(rt, threads, origin, &server) {
-        Ok(counts) => {
-            say_counts(rt, &server, &counts);
-            ExitCode::SUCCESS
-        }
-        Err(code) => code,
+    match server.log.as_deref() {
+        Some(folder) => logs::serve(rt, threads, &server, folder),
+        None => serve_plainly(rt, threads, &server),
     }
 }
 

@@ -20,6 +20,8 @@ pub struct Server {
     pub options: ServeOptions,
     /// The file of the image that it begins with; without one it begins without rows.
     pub image: Option<String>,
+    /// The folder of the log that it goes on with. With an image it begins a log there.
+    pub log: Option<String>,
     /// Which lines end a section.
     pub sections: Sectioning,
     /// Whether it says at its end what it has counted.
@@ -108,6 +110,14 @@ fn image_option<'a>(alloc: Global) -> Result<Arg<'a>, AllocError> {
         .conflicts_with("large")
 }
 
+/// Which log the server goes on with.
+fn log_option<'a>(alloc: Global) -> Arg<'a> {
+    Arg::new(alloc, "log")
+        .long("log")
+        .value_name("FOLDER")
+        .help("Keep what is changed in the log of this folder, before it is answered")
+}
+
 /// Whether each line is a section, whatever `--section` says.
 fn interactive_option<'a>(alloc: Global) -> Arg<'a> {
     Arg::new(alloc, "interactive")
@@ -177,7 +187,7 @@ fn serve_command<'a>(alloc: Global) -> Result<Command<'a>, AllocError> {
     let command = Command::new(alloc, "serve")
         .about("Answers request lines from standard input")
         .after_help(ABOUT_SERVE);
-    with_options(alloc, command)
+    with_options(alloc, command)?.arg(log_option(alloc))
 }
 
 /// The command line of `dump`.
@@ -204,9 +214,25 @@ fn sections_of(found: &ArgMatches) -> Sectioning {
     }
 }
 
+/// The text of an option or an argument that clap has found.
+fn text_of(
+    alloc: Global,
+    found: &ArgMatches,
+    name: &str,
+) -> Result<Option<String>, AllocError> {
+    match found.get_str(name) {
+        Some(text) => Ok(Some(String::from_str(alloc, text)?)),
+        None => Ok(None),
+    }
+}
+
 /// The server that clap has found. It has refused a value outside the limits; they are kept here too, since its answer is
 /// not known to the proof.
-fn server_of(alloc: Global, found: &ArgMatches) -> Result<Server, AllocError>
+fn server_of(
+    alloc: Global,
+    found: &ArgMatches,
+    log: Option<String>,
+) -> Result<Server, AllocError>
     ensures { IfOk result (λ server. AreWithin server.options) }
 {
     let options = ServeOptions::of(
@@ -218,14 +244,12 @@ fn server_of(alloc: Global, found: &ArgMatches) -> Result<Server, AllocError>
         Some(pages) => options.having_large(pages),
         None => options,
     };
-    let image = match found.get_str("image") {
-        Some(file) => Some(String::from_str(alloc, file)?),
-        None => None,
-    };
+    let image = text_of(alloc, found, "image")?;
     let stats = found.get_flag("stats");
     Ok(Server {
         options,
         image,
+        log,
         sections: sections_of(found),
         stats,
     })
@@ -344,20 +368,13 @@ fn blink_command<'a>(alloc: Global) -> Result<Command<'a>, AllocError> {
     with_command(blink, log_command(alloc))
 }
 
-/// The file that clap has found.
-fn file_of(alloc: Global, found: &ArgMatches) -> Result<Option<String>, AllocError> {
-    match found.get_str("FILE") {
-        Some(file) => Ok(Some(String::from_str(alloc, file)?)),
-        None => Ok(None),
-    }
-}
-
 /// What a command of this name asks for, with what clap has found of it.
 fn invocation_of(alloc: Global, name: &str, found: &ArgMatches) -> Result<Invocation, AllocError>
     ensures { IfOk result IsWithinLimits }
 {
     if name == "serve" {
-        return Ok(Invocation::Serve(server_of(alloc, found)?));
+        let log = text_of(alloc, found, "log")?;
+        return Ok(Invocation::Serve(server_of(alloc, found, log)?));
     }
     if name == "log" {
         return Ok(match log_of(alloc, found)? {
@@ -365,11 +382,11 @@ fn invocation_of(alloc: Global, name: &str, found: &ArgMatches) -> Result<Invoca
             None => Invocation::Nothing,
         });
     }
-    let Some(file) = file_of(alloc, found)? else {
+    let Some(file) = text_of(alloc, found, "FILE")? else {
         return Ok(Invocation::Nothing);
     };
     match name {
-        "dump" => Ok(Invocation::Dump(server_of(alloc, found)?, file)),
+        "dump" => Ok(Invocation::Dump(server_of(alloc, found, None)?, file)),
         "load" => Ok(Invocation::Load(loading_of(found), file)),
         "rows" => Ok(Invocation::Rows(file)),
         "check" => Ok(Invocation::Check(file)),

@@ -5,7 +5,7 @@ pub(crate) const VERSION: &str = "0.1.0, proved with rattle-kit-13f logic dac820
 
 /// Of all commands.
 pub(crate) const ABOUT_ALL: &str = "\
-The index is in memory, and an image is all that is kept of it. There is no
+The index is in memory; an image or a log is what is kept of it. There is no
 network: requests are lines on standard input.
 
 `blink help COMMAND` has the lines that a command reads, and examples.
@@ -70,11 +70,12 @@ Examples:
   blink serve --pages 65536 --workers 8 --stats <requests >replies
   blink serve --section 10000 <requests >replies
   blink serve --image index.image <requests >replies
+  mkdir kept && blink serve --log kept --section 1000 <requests >replies
 
 Exit status: 0 all is well, also where requests found no room; 1 the image
 breaks a rule, which standard error names as `blink check` does, and nothing is
-read; 3 reading or writing failed; 4 out of memory; 5 the answer of a request
-was lost.";
+read; 3 reading or writing failed, or the log; 4 out of memory; 5 the answer of
+a request was lost.";
 
 /// Of `dump`.
 pub(crate) const ABOUT_DUMP: &str = "\

@@ -3,34 +3,13 @@
 use crate::fault::LogError;
 use crate::folder::salt_of;
 use crate::log_file::LogFile;
-use bl_journal::{Journal, LogFault, read};
+use crate::reason::reason_of;
+use bl_journal::{Journal, read};
 use bl_model::Watched;
 use bl_row_lines::{read_rows, write_rows};
-use std::alloc::{AllocError, Global};
+use std::alloc::Global;
 use std::io::{Read, Write};
 use std::rt::Files;
-
-/// Why a log is not read or not written, with its file.
-fn reason_of<R: Files>(
-    alloc: Global,
-    folder: &str,
-    device: &LogFile<'_, R>,
-    fault: LogFault,
-) -> Result<LogError, AllocError> {
-    let why = match fault {
-        LogFault::Memory => return Ok(LogError::Memory),
-        LogFault::Refused => match device.why() {
-            Some(why) => String::from_str(alloc, why)?,
-            None => format!(in alloc; "{folder}/log: is not written to before it is read")?,
-        },
-        LogFault::Alien => format!(in alloc; "{folder}/log: is no log")?,
-        LogFault::Damaged(byte) => format!(in alloc;
-            "{folder}/log: is damaged from byte {byte} on"
-        )?,
-        LogFault::Broken => format!(in alloc; "{folder}/log: its records are those of no map")?,
-    };
-    Ok(LogError::Log(why))
-}
 
 /// The rows of the map of a log, by rising keys. The folder must have a log.
 fn rows_of<R: Files>(rt: &R, alloc: Global, folder: &str) -> Result<Vec<(u64, u64)>, LogError> {

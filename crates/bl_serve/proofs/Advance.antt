@@ -41,7 +41,7 @@ lines_more s t = sym (flat_map_more (λ x. x.lines) [] s t)
 history_more : (s : List Section) (t : Section) → served.history_of (s ++ t ∷ []) ≡ served.history_of s ++ t.history
 history_more s t = sym (flat_map_more (λ x. x.history) [] s t)
 
-input_append : (xs ys : List Line) → input_of (xs ++ ys) ≡ input_of xs ++ input_of ys
+pub input_append : (xs ys : List Line) → input_of (xs ++ ys) ≡ input_of xs ++ input_of ys
 input_append xs ys = flat_map-append (λ l. l.bytes ++ 10 ∷ []) xs ys
 
 -- the finished sections, which began where the passes had seen old and have led to now
@@ -61,13 +61,13 @@ pub no_progress : (how : Sectioning) (pages : ℕ) (old : Trail) (totals : Total
 no_progress how pages old totals none = record { sections = []; more = []; begins = sym (append-nil old); each = All-nil (IsFinished how pages); history = refl; read = refl; written = refl; requests = none.0; malformed = none.1; syncs = none.2 }
 
 -- a history goes on lawfully behind the one that was seen
-legal_on : (first : List (Option Page)) (old now more : Trail) (h : List Entry) → IsLinearizable first (now ++ more) → (begun : Trail) → now ≡ old ++ begun → history_of begun ≡ h → IsLegalFrom (map_after first old) (h ++ history_of more)
+pub legal_on : (first : List (Option Page)) (old now more : Trail) (h : List Entry) → IsLinearizable first (now ++ more) → (begun : Trail) → now ≡ old ++ begun → history_of begun ≡ h → IsLegalFrom (map_after first old) (h ++ history_of more)
 legal_on first old now more h seen begun is same =
     subst (λ (z : List Entry). IsLegalFrom (map_after first old) (z ++ history_of more)) same
     (legal_rest (first_map first) (history_of old) (history_of begun ++ history_of more)
     (subst (IsLegalFrom (first_map first)) (history_append now more ∙ (ap (λ (z : Trail). history_of z ++ history_of more) is ∙ (ap (λ (z : List Entry). z ++ history_of more) (history_append old begun) ∙ append_assoc (history_of old) (history_of begun) (history_of more)))) seen.legal))
 
-legal_so_far : (first : List (Option Page)) (old now : Trail) (h : List Entry) → IsLinearizable first now → (begun : Trail) → now ≡ old ++ begun → history_of begun ≡ h → IsLegalFrom (map_after first old) h
+pub legal_so_far : (first : List (Option Page)) (old now : Trail) (h : List Entry) → IsLinearizable first now → (begun : Trail) → now ≡ old ++ begun → history_of begun ≡ h → IsLegalFrom (map_after first old) h
 legal_so_far first old now h seen begun is same = subst (IsLegalFrom (map_after first old)) same
     (legal_rest (first_map first) (history_of old) (history_of begun) (subst (IsLegalFrom (first_map first)) (ap history_of is ∙ history_append old begun) seen.legal))
 
@@ -77,16 +77,16 @@ module _ (pages : ℕ) (unread left : List ℕ) (asked : List (Option Request)) 
   abbrev pub the_lines : List Line
   the_lines = lines_with r.texts h.answers
 
-  the_are : AreLines pages asked r.texts h.answers
+  pub the_are : AreLines pages asked r.texts h.answers
   the_are = are_lines pages asked r.texts h.answers r.each h.each
 
-  whole_section : IsSection pages (section_of the_lines more)
+  pub whole_section : IsSection pages (section_of the_lines more)
   whole_section = record { lines = the_are.good; history = subst (λ (z : List (List Entry)). Interleaves z (history_of more)) (sym the_are.entries_are) h.interleaves; order = λ key. h.order key ∙ ap (on_key key) (sym the_are.all_entries) }
 
-  read_is : unread ≡ input_of the_lines ++ rest ++ left
+  pub read_is : unread ≡ input_of the_lines ++ rest ++ left
   read_is = r.read ∙ ap (λ (z : List ℕ). z ++ rest ++ left) (sym the_are.input)
 
-  text_is : text ≡ output_of (suc done) the_lines
+  pub text_is : text ≡ output_of (suc done) the_lines
   text_is = h.prints ∙ the_are.output (suc done)
 
 -- the output of the finished sections and the open one
@@ -141,7 +141,7 @@ pub ends_finished : (rest : List ℕ) → rest ≡ [] → EndsWith section_end.F
 ends_finished [] is = record { one = refl; prints = λ n. refl }
 ends_finished (b ∷ rest) is = absurd (let no : ⊥ = cc in no)
 
-open_text : (s : List Section) (lines : List Line) (rest text tail : List ℕ) (n k : ℕ) → n ≡ length (lines_of s) → length lines ≡ k → text ≡ output_of (suc n) lines → tail ≡ rest_text (n + k + 1) rest
+pub open_text : (s : List Section) (lines : List Line) (rest text tail : List ℕ) (n k : ℕ) → n ≡ length (lines_of s) → length lines ≡ k → text ≡ output_of (suc n) lines → tail ≡ rest_text (n + k + 1) rest
     → text ++ tail ≡ text_of (suc (length (lines_of s))) lines rest
 open_text s lines rest text tail n k e long is ends = ap (λ (z : List ℕ). z ++ tail) is ∙ (ap (λ (z : List ℕ). output_of (suc n) lines ++ z) ends
     ∙ (ap (λ (z : ℕ). output_of (suc z) lines ++ rest_text (n + k + 1) rest) e ∙ ap (λ (z : ℕ). output_of (suc (length (lines_of s))) lines ++ rest_text z rest) (let at : n + k + 1 ≡ suc (length (lines_of s)) + length lines = omega (arith, e, long) in at)))
@@ -227,7 +227,7 @@ interleaves_all [] = Done [] (All-nil (λ list. list ≡ []))
 interleaves_all (answer ∷ answers) = interleaves_front (entries answer) (map entries answers) (flat_map entries answers) (interleaves_all answers)
 
 -- the lines behind the finished sections were read, and a beginning of what would be their output is out
-stopped : (how : Sectioning) (pages : ℕ) (first : List (Option Page)) (old now : Trail) (before : Totals) (input output unread left rest begun unwritten : List ℕ) (fault : ServeFault) (p : Progress how pages old now before input output) (last : Section) → IsSection pages last → HasNoEndInside how last.lines → HasNoLf rest
+abbrev pub stopped : (how : Sectioning) (pages : ℕ) (first : List (Option Page)) (old now : Trail) (before : Totals) (input output unread left rest begun unwritten : List ℕ) (fault : ServeFault) (p : Progress how pages old now before input output) (last : Section) → IsSection pages last → HasNoEndInside how last.lines → HasNoLf rest
     → IsLegalFrom (map_after first old) (served.history_of p.sections ++ last.history) → unread ≡ input_of last.lines ++ rest ++ left
     → text_of (suc (length (lines_of p.sections))) last.lines rest ≡ begun ++ unwritten → Leaves how fault (length (lines_of p.sections)) begun left last.lines
     → Stopped how pages (map_after first old) (input ++ unread) (output ++ begun) fault

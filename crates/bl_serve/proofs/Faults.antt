@@ -90,7 +90,7 @@ pub record Ended (how : Sectioning) (pages : ℕ) (unread left : List ℕ) (aske
   pub inside : HasNoEndInside how (lines_with reads.texts h.answers)
   pub prints : (n : ℕ) → end_text end n ≡ rest_text n rest
 
-ended : (how : Sectioning) (pages : ℕ) (unread left : List ℕ) (asked : List (Option Request)) (rest : List ℕ) (done : ℕ) (text : List ℕ) (more : Trail) (h : Held pages done asked text more) (end : SectionEnd) (most : ℕ) (AtEnd Failed : Type 0) → EndsReading how (Ok end) most asked rest unread left AtEnd Failed → Ended how pages unread left asked rest done text more h end
+pub ended : (how : Sectioning) (pages : ℕ) (unread left : List ℕ) (asked : List (Option Request)) (rest : List ℕ) (done : ℕ) (text : List ℕ) (more : Trail) (h : Held pages done asked text more) (end : SectionEnd) (most : ℕ) (AtEnd Failed : Type 0) → EndsReading how (Ok end) most asked rest unread left AtEnd Failed → Ended how pages unread left asked rest done text more h end
 ended how pages unread left asked rest done text more h section_end.ByLine most AtEnd Failed e = record { reads = e.0; inside = inside_end_last how pages unread left rest asked e.0 done text more h e.3; prints = (ends_finished rest e.2).prints }
 ended how pages unread left asked rest done text more h section_end.Rest most AtEnd Failed e = record { reads = e.0; inside = inside_no_end how pages unread left rest asked e.0 done text more h e.3; prints = (ends_rest rest e.2).prints }
 ended how pages unread left asked rest done text more h section_end.Finished most AtEnd Failed e = record { reads = e.0; inside = inside_no_end how pages unread left rest asked e.0 done text more h e.3; prints = (ends_finished rest e.2).prints }

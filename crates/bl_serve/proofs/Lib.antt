@@ -16,3 +16,6 @@ pub mod Faults
 pub mod Continuing
 pub mod Beginning
 pub mod Leaving
+pub mod Noting
+pub mod Led
+pub mod Surviving

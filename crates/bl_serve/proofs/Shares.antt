@@ -1,5 +1,5 @@
 -- What the passes did in a section, put together.
-use Rattle.std.proofs.Common.{◌≡◌, ℕ, suc, ◌+◌, ◌<◌, ◌≤◌, List, [], ◌∷◌, ◌++◌, length, take, drop, map, set, get_or, refl, sym, ap, ◌∙◌, subst, append-nil, arith, add-one, length-set}
+use Rattle.std.proofs.Common.{◌≡◌, ℕ, suc, ◌+◌, ◌<◌, ◌≤◌, Bool, List, [], ◌∷◌, ◌++◌, length, take, drop, map, set, get_or, refl, sym, ap, ◌∙◌, subst, append-nil, arith, add-one, length-set}
 use Rattle.std.specs.Prelude.{All, Option, Result, Ok, Err, OnOk, is_ok, cond, false, flat_map, IsPermutation}
 use Rattle.std.specs.List.{AllZip}
 use Rattle.std.proofs.lemmas.List.{map-append, length-map, take_all, take_more, take-append-drop}
@@ -70,9 +70,9 @@ collects_all all now written i end g =
 
 -- ---- from slot to slot
 
-module _ (number : ℕ) (deals : List ℕ) (lines : List (Option Request)) where
+module _ (keeps : Bool) (number : ℕ) (deals : List ℕ) (lines : List (Option Request)) where
   -- two parts of the passes have done their work
-  pub turns_append : (os ns : List Handle) (ds : List Slot) (os' ns' : List Handle) (ds' : List Slot) → WorkOn number deals lines os ns ds → WorkOn number deals lines os' ns' ds' → WorkOn number deals lines (os ++ os') (ns ++ ns') (ds ++ ds')
+  pub turns_append : (os ns : List Handle) (ds : List Slot) (os' ns' : List Handle) (ds' : List Slot) → WorkOn keeps number deals lines os ns ds → WorkOn keeps number deals lines os' ns' ds' → WorkOn keeps number deals lines (os ++ os') (ns ++ ns') (ds ++ ds')
   turns_append [] [] [] os' ns' ds' h k = k
   turns_append [] [] (d ∷ ds) os' ns' ds' h k = absurd h
   turns_append [] (n ∷ ns) ds os' ns' ds' h k = absurd h
@@ -81,7 +81,7 @@ module _ (number : ℕ) (deals : List ℕ) (lines : List (Option Request)) where
   turns_append (o ∷ os) (n ∷ ns) (d ∷ ds) os' ns' ds' h k = (h.0, turns_append os ns ds os' ns' ds' h.1 k)
 
   -- there are as many of each
-  pub turns_long : (os ns : List Handle) (ds : List Slot) → WorkOn number deals lines os ns ds → (length ns ≡ length os) × (length ds ≡ length os)
+  pub turns_long : (os ns : List Handle) (ds : List Slot) → WorkOn keeps number deals lines os ns ds → (length ns ≡ length os) × (length ds ≡ length os)
   turns_long [] [] [] h = (refl, refl)
   turns_long [] [] (d ∷ ds) h = absurd h
   turns_long [] (n ∷ ns) ds h = absurd h
@@ -94,12 +94,12 @@ module _ (number : ℕ) (deals : List ℕ) (lines : List (Option Request)) where
     pub long : length news ≡ length olds
     pub many : length now ≡ length slots
     pub left : drop i news ≡ drop i olds
-    pub turns : WorkOn number deals lines (take i olds) (take i news) (take i now)
+    pub turns : WorkOn keeps number deals lines (take i olds) (take i news) (take i now)
 
   pub turns_none : (olds : List Handle) (slots : List Slot) → TurnsSo olds olds slots slots 0
   turns_none olds slots = record { long = refl; many = refl; left = refl; turns = tt }
 
-  pub turns_more : (olds news : List Handle) (slots now : List Slot) (i : ℕ) (was is d : Handle) (slot : Slot) → TurnsSo olds news slots now i → i < length news → i < length now → was ≡ get_or news i d → WorksOn number deals lines was is slot
+  pub turns_more : (olds news : List Handle) (slots now : List Slot) (i : ℕ) (was is d : Handle) (slot : Slot) → TurnsSo olds news slots now i → i < length news → i < length now → was ≡ get_or news i d → WorksOn keeps number deals lines was is slot
       → TurnsSo olds (set news i is) slots (set now i slot) (i + 1)
   turns_more olds news slots now i was is d slot t low low' at turn =
       let there : was ≡ get_or olds i d = at ∙ next_is olds news i d t.left low in
@@ -109,28 +109,28 @@ module _ (number : ℕ) (deals : List ℕ) (lines : List (Option Request)) where
         long = length-set news i is ∙ t.long;
         many = length-set now i slot ∙ t.many;
         left = rw add-one (drop_set news i is ∙ drop_one news olds i t.left);
-        turns = subst (λ (z : List Handle × List Handle × List Slot). WorkOn number deals lines z.0 z.1 z.2) (λ k. (sym old_are k, sym (take_set news i is low) k, sym (take_set now i slot low') k)) both;
+        turns = subst (λ (z : List Handle × List Handle × List Slot). WorkOn keeps number deals lines z.0 z.1 z.2) (λ k. (sym old_are k, sym (take_set news i is low) k, sym (take_set now i slot low') k)) both;
       }
 
-  pub turns_all : (olds news : List Handle) (slots now : List Slot) (i : ℕ) → length slots ≡ length olds → length olds ≤ i → TurnsSo olds news slots now i → WorkOn number deals lines olds news now
+  pub turns_all : (olds news : List Handle) (slots now : List Slot) (i : ℕ) → length slots ≡ length olds → length olds ≤ i → TurnsSo olds news slots now i → WorkOn keeps number deals lines olds news now
   turns_all olds news slots now i as_many end t =
       let e = t.long in let f = t.many in
-      subst (λ (z : List Handle × List Handle × List Slot). WorkOn number deals lines z.0 z.1 z.2)
+      subst (λ (z : List Handle × List Handle × List Slot). WorkOn keeps number deals lines z.0 z.1 z.2)
       (λ k. (take_all i olds end k, take_all i news (omega (arith, e, end)) k, take_all i now (omega (arith, f, as_many, end)) k)) t.turns
 
   -- the first ones and the others, in two threads
-  turns_parted : (place : ℕ) (olds news some now : List Handle) (slots theirs : List Slot) → WorkOn number deals lines (take place olds) news slots → WorkOn number deals lines (drop place olds) now theirs → some ≡ news ++ now
-      → WorkOn number deals lines olds some (slots ++ theirs)
+  turns_parted : (place : ℕ) (olds news some now : List Handle) (slots theirs : List Slot) → WorkOn keeps number deals lines (take place olds) news slots → WorkOn keeps number deals lines (drop place olds) now theirs → some ≡ news ++ now
+      → WorkOn keeps number deals lines olds some (slots ++ theirs)
   turns_parted place olds news some now slots theirs h k is =
-      subst (λ (z : List Handle × List Handle). WorkOn number deals lines z.0 z.1 (slots ++ theirs)) (λ i. (take-append-drop place olds i, sym is i))
+      subst (λ (z : List Handle × List Handle). WorkOn keeps number deals lines z.0 z.1 (slots ++ theirs)) (λ i. (take-append-drop place olds i, sym is i))
       (turns_append (take place olds) news slots (drop place olds) now theirs h k)
 
-  pub parted_ok : {A E : Type 0} (r : Result A E) (place : ℕ) (olds news some now : List Handle) (slots theirs : List Slot) → WorkOn number deals lines (take place olds) news slots → WorkOn number deals lines (drop place olds) now theirs
-      → some ≡ cond (is_ok r) (news ++ now) news → OnOk r (WorkOn number deals lines olds some (slots ++ theirs))
+  pub parted_ok : {A E : Type 0} (r : Result A E) (place : ℕ) (olds news some now : List Handle) (slots theirs : List Slot) → WorkOn keeps number deals lines (take place olds) news slots → WorkOn keeps number deals lines (drop place olds) now theirs
+      → some ≡ cond (is_ok r) (news ++ now) news → OnOk r (WorkOn keeps number deals lines olds some (slots ++ theirs))
   parted_ok (Ok x) place olds news some now slots theirs h k is = turns_parted place olds news some now slots theirs h k is
   parted_ok (Err e) place olds news some now slots theirs h k is = tt
 
-module _ (first : List (Option Page)) (pages number : ℕ) (deals : List ℕ) (lines : List (Option Request)) where
+module _ (keeps : Bool) (first : List (Option Page)) (pages number : ℕ) (deals : List ℕ) (lines : List (Option Request)) where
   record Spread (olds news : List Handle) (slots : List Slot) : Type 0 where
     taken : List Taken
     pieces : List Piece
@@ -141,7 +141,7 @@ module _ (first : List (Option Page)) (pages number : ℕ) (deals : List ℕ) (l
     written : map (λ p. p.output) pieces ≡ flat_map (λ d. d.log.items) slots
     shares : flat_map (λ t. t.share) taken ≡ map entries_in pieces
 
-  spread : (olds news : List Handle) (slots : List Slot) → All (BeganWith first pages) olds → WorkOn number deals lines olds news slots → All (λ (d : Slot). d.failed ≡ false) slots → Spread olds news slots
+  spread : (olds news : List Handle) (slots : List Slot) → All (BeganWith first pages) olds → WorkOn keeps number deals lines olds news slots → All (λ (d : Slot). d.failed ≡ false) slots → Spread olds news slots
   spread [] [] [] began h ok = record { taken = []; pieces = []; old_are = refl; new_are = refl; each_taken = All-nil (IsTaken first); each = All-nil (IsPiece pages number deals lines); written = refl; shares = refl }
   spread [] [] (d ∷ slots) began h ok = absurd h
   spread [] (n ∷ news) slots began h ok = absurd h
@@ -164,7 +164,7 @@ module _ (first : List (Option Page)) (pages number : ℕ) (deals : List ℕ) (l
       }
 
   -- each output has a reply for each line of its share
-  pub collected_whole : (olds news : List Handle) (slots : List Slot) (written : List ShareOutput) → length lines ≡ length deals → All (BeganWith first pages) olds → WorkOn number deals lines olds news slots → Collects slots written → All (IsWhole deals) written
+  pub collected_whole : (olds news : List Handle) (slots : List Slot) (written : List ShareOutput) → length lines ≡ length deals → All (BeganWith first pages) olds → WorkOn keeps number deals lines olds news slots → Collects slots written → All (IsWhole deals) written
   collected_whole olds news slots written as_many began turns g =
       let s = spread olds news slots began turns g.none_failed in
       subst (All (IsWhole deals)) (s.written ∙ sym g.outputs_are) (All-map (IsWhole deals) (λ (p : Piece). p.output) s.pieces
@@ -199,7 +199,7 @@ module _ (first : List (Option Page)) (pages number : ℕ) (deals : List ℕ) (l
   texts_long : (all : List Answer) → length lines ≡ length deals → length all ≡ length lines → length (texts_of all) ≡ length deals
   texts_long all as_many long = replies_long (numbers number (length lines)) all (long ∙ sym (numbers_long number (length lines))) ∙ (numbers_long number (length lines) ∙ as_many)
 
-  pub chunk : (count : ℕ) (text old : List ℕ) (olds news : List Handle) (slots : List Slot) (written sorted : List ShareOutput) → length lines ≡ length deals → AreDealt count lines deals → All (BeganWith first pages) olds → WorkOn number deals lines olds news slots → Collects slots written
+  pub chunk : (count : ℕ) (text old : List ℕ) (olds news : List Handle) (slots : List Slot) (written sorted : List ShareOutput) → length lines ≡ length deals → AreDealt count lines deals → All (BeganWith first pages) olds → WorkOn keeps number deals lines olds news slots → Collects slots written
       → IsPermutation written sorted → map (λ w. w.share) sorted ≡ numbers 0 count → ((texts : List (List ℕ)) → length texts ≡ length deals → All (IsOutputOf deals texts) sorted → text ≡ old ++ joined_text texts)
       → (more : List ℕ) × (text ≡ old ++ more) × IsChunk first pages number lines more (seats_of olds) (seats_of news)
   chunk count text old olds news slots written sorted as_many d began turns g perm are_all text_is =

@@ -1,5 +1,5 @@
 -- A chunk of lines that was answered.
-use Rattle.std.specs.Prelude.{◌≡◌, ℕ, ◌++◌, List, [], ◌∷◌, All, Option, false, flat_map, map}
+use Rattle.std.specs.Prelude.{◌≡◌, ℕ, ◌++◌, List, [], ◌∷◌, All, Bool, Option, false, flat_map, map}
 use Rattle.std.specs.List.{AllZip}
 use Rattle.bl_model.specs.declared.operation.Entry.{Entry}
 use Rattle.bl_serve_lines.specs.declared.request.Request.{Request}
@@ -54,7 +54,8 @@ pub record Collects (slots : List Slot) (outputs : List ShareOutput) : Type 0 wh
   pub outputs_are : outputs ≡ flat_map (λ s. s.log.items) slots
 
 -- Each of these handles has done its work for a chunk, at the slot that has its place.
-abbrev pub WorkOn : ℕ → List ℕ → List (Option Request) → List Handle → List Handle → List Slot → Type 0
-WorkOn number deals lines [] [] [] = Unit {0}
-WorkOn number deals lines (old ∷ olds) (new ∷ news) (slot ∷ slots) = WorksOn number deals lines old new slot × WorkOn number deals lines olds news slots
-WorkOn number deals lines olds news slots = ⊥
+abbrev pub WorkOn : Bool → ℕ → List ℕ → List (Option Request) → List Handle → List Handle → List Slot → Type 0
+WorkOn keeps number deals lines [] [] [] = Unit {0}
+WorkOn keeps number deals lines (old ∷ olds) (new ∷ news) (slot ∷ slots) =
+    WorksOn keeps number deals lines old new slot × WorkOn keeps number deals lines olds news slots
+WorkOn keeps number deals lines olds news slots = ⊥

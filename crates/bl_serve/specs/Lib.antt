@@ -2,9 +2,11 @@ pub mod Dealing
 pub mod Joining
 pub mod Chunks
 pub mod Meetings
+pub mod Noting
 pub mod Reading
 pub mod Sections
 pub mod Serving
+pub mod Surviving
 pub mod Origins
 pub mod Dumps
 pub mod Begun

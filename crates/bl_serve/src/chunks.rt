@@ -1,6 +1,6 @@
 //! A chunk of a section is answered: its lines are dealt into shares, threads work on them, and all are joined.
 
-ghost use Rattle.std.specs.Prelude.{◌≡◌, ℕ, List, suc, ◌+◌, ◌<◌, ◌≤◌, ◌^◌, ◌++◌, true, false, length, All, IfOk, IfErr, OnOk, vec_len};
+ghost use Rattle.std.specs.Prelude.{◌≡◌, ℕ, List, suc, ◌+◌, ◌<◌, ◌≤◌, ◌^◌, ◌++◌, true, false, length, flat_map, All, IfOk, IfErr, OnOk, vec_len};
 ghost use Rattle.bl_index.specs.Calls.{first_of, pages_of};
 ghost use Rattle.bl_map.specs.Handles.{seats_of};
 ghost use Rattle.bl_map.specs.Meetings.{IsSeated};
@@ -9,6 +9,7 @@ ghost use Rattle.std.specs.Thread.{IsSync};
 ghost use Rattle.std.specs.Io.KnownBytes.{Consumes};
 ghost use Rattle.bl_serve.specs.Reading.{ReadsOn};
 ghost use Rattle.bl_serve.specs.Chunks.{IsChunk, Collects, WorkOn};
+ghost use Rattle.bl_serve.specs.Noting.{StillNote};
 ghost use Rattle.bl_serve.specs.Serving.{AreMet, HoldsSection, IsInside};
 
 use crate::dealing::{deal, shares_for};
@@ -17,6 +18,7 @@ use crate::meeting::meet_all;
 use crate::parsed_lines::ParsedLines;
 use crate::section_reader::{ReadAhead, read_on};
 use crate::session::{Session, ThreadPlan};
+use bl_changes::Changes;
 use bl_index::Index;
 use bl_map::Handle;
 use bl_model::Watched;
@@ -66,6 +68,7 @@ pub fn new_slots(alloc: Global, count: usize, workers: usize) -> Result<Vec<Slot
             role: role_of(number, workers),
             last: number + 1 == count,
             log: Vec::new(alloc),
+            changes: Changes::new(alloc),
             norooms: 0,
             failed: false,
         })?;
@@ -101,7 +104,7 @@ fn work_in_turn<R: Wait, G: Gate>(
     slots: &mut [Slot],
 )
     requires { length slots.old ≡ length handles.old }
-    ensures { WorkOn (suc chunk.now.before) chunk.now.deals.now chunk.now.lines.now handles.old handles.new slots.new }
+    ensures { WorkOn chunk.now.service.now.keeps (suc chunk.now.before) chunk.now.deals.now chunk.now.lines.now handles.old handles.new slots.new }
 {
     for number in 0..handles.len() {
         work_on(rt, chunk, &mut handles[number], &mut slots[number]);
@@ -118,7 +121,7 @@ fn work_alone<R: Wait, G: Gate, I: Read>(
     ahead: &mut ReadAhead,
 )
     requires { length slots.old ≡ length handles.old }
-    ensures turns { WorkOn (suc chunk.now.before) chunk.now.deals.now chunk.now.lines.now handles.old handles.new slots.new }
+    ensures turns { WorkOn chunk.now.service.now.keeps (suc chunk.now.before) chunk.now.deals.now chunk.now.lines.now handles.old handles.new slots.new }
     ensures reads { ReadsOn ahead.old ahead.new (I.remaining reader.old.inner) (I.remaining reader.new.inner) (reader.new.failed ≡ true) }
 {
     read_on(reader, ahead);
@@ -140,7 +143,8 @@ fn work_abreast<R: Threads + Wait + Sync, G: Gate + Sync, I: Read>(
     ahead: &mut ReadAhead,
 ) -> Result<(), AllocError>
     requires { length slots.old ≡ vec_len handles.old }
-    ensures turns { OnOk result (WorkOn (suc chunk.now.before) chunk.now.deals.now chunk.now.lines.now handles.old.items handles.new.items slots.new) }
+    ensures turns { OnOk result (WorkOn chunk.now.service.now.keeps (suc chunk.now.before) chunk.now.deals.now chunk.now.lines.now
+        handles.old.items handles.new.items slots.new) }
     ensures reads { ReadsOn ahead.old ahead.new (I.remaining reader.old.inner) (I.remaining reader.new.inner) (reader.new.failed ≡ true) }
 {
     let place = last_share(slots.len(), threads);
@@ -157,12 +161,13 @@ fn work_abreast<R: Threads + Wait + Sync, G: Gate + Sync, I: Read>(
         rt,
         &mut ||
             requires { length theirs.now ≡ vec_len some }
-            ensures { WorkOn (suc chunk.entry.now.before) chunk.entry.now.deals.now chunk.entry.now.lines.now some.entry.items some.exit.items theirs.exit.now }
+            ensures { WorkOn chunk.entry.now.service.now.keeps (suc chunk.entry.now.before) chunk.entry.now.deals.now chunk.entry.now.lines.now
+                some.entry.items some.exit.items theirs.exit.now }
         { work_in_turn(rt, chunk, some.as_mut_slice(), theirs) },
         &mut ||
             requires { IsSync R.row × IsSync G.row × (length rest.now ≡ vec_len handles.now) }
-            ensures turns { OnOk result (WorkOn (suc chunk.entry.now.before) chunk.entry.now.deals.now chunk.entry.now.lines.now
-                handles.entry.now.items handles.exit.now.items rest.exit.now) }
+            ensures turns { OnOk result (WorkOn chunk.entry.now.service.now.keeps (suc chunk.entry.now.before) chunk.entry.now.deals.now
+                chunk.entry.now.lines.now handles.entry.now.items handles.exit.now.items rest.exit.now) }
             ensures reads { ReadsOn ahead.entry.now ahead.exit.now (I.remaining reader.entry.now.inner) (I.remaining reader.exit.now.inner)
                 (reader.exit.now.failed ≡ true) }
         {
@@ -203,7 +208,21 @@ fn collect_outputs(alloc: Global, slots: &mut Vec<Slot>) -> Result<Vec<ShareOutp
     Ok(outputs)
 }
 
-/// Answers the lines of a chunk, each handle at the slot that has its place. The output goes behind the text.
+/// The changes in all slots go behind the rest.
+fn collect_changes(slots: &[Slot], changes: &mut Changes) -> Result<(), AllocError>
+    ensures came { OnOk result (changes.new.came.items ≡ changes.old.came.items ++ flat_map (λ s. s.changes.came.items) slots.now) }
+    ensures went { OnOk result (changes.new.went.items ≡ changes.old.went.items ++ flat_map (λ s. s.changes.went.items) slots.now) }
+{
+    let mut rest = slots;
+    while let [slot, after @ ..] = rest {
+        changes.take(&slot.changes)?;
+        rest = after;
+    }
+    Ok(())
+}
+
+/// Answers the lines of a chunk, each handle at the slot that has its place. The output goes behind the text, and what was changed behind
+/// the changes.
 fn answer_chunk<'a, 'b, R: Threads + Wait + Sync, G: Gate + Sync, I: Read>(
     rt: &R,
     service: &'a Service<'a, G>,
@@ -221,6 +240,8 @@ fn answer_chunk<'a, 'b, R: Threads + Wait + Sync, G: Gate + Sync, I: Read>(
     ensures chunk { IfOk result (λ back. (more : List ℕ) × (back.text.items ≡ session.entry.text.items ++ more)
         × IsChunk (first_of service.now.index.now) (pages_of service.now.index.now) (suc session.entry.totals.requests) lines.now more
         (seats_of session.entry.handles.items) (seats_of back.handles.items)) }
+    ensures noted { IfOk result (λ back. service.now.keeps ≡ true
+        → StillNote (seats_of session.entry.handles.items) session.entry.changes (seats_of back.handles.items) back.changes) }
 {
     let Session {
         plan,
@@ -228,6 +249,7 @@ fn answer_chunk<'a, 'b, R: Threads + Wait + Sync, G: Gate + Sync, I: Read>(
         mut slots,
         totals,
         remarks,
+        mut changes,
         mut text,
     } = session;
     let (alloc, before) = (service.alloc, totals.requests);
@@ -248,6 +270,7 @@ fn answer_chunk<'a, 'b, R: Threads + Wait + Sync, G: Gate + Sync, I: Read>(
     };
     let places = slots.as_mut_slice();
     work_abreast(rt, &chunk, threads, &mut handles, places, reader, ahead)?;
+    collect_changes(slots.as_slice(), &mut changes)?;
     let outputs = collect_outputs(alloc, &mut slots)?;
     let dealt = deals.as_slice();
     join_outputs(alloc, outputs, dealt, shares, before, &mut text)?;
@@ -257,6 +280,7 @@ fn answer_chunk<'a, 'b, R: Threads + Wait + Sync, G: Gate + Sync, I: Read>(
         slots,
         totals,
         remarks,
+        changes,
         text,
     })
 }
@@ -264,7 +288,8 @@ fn answer_chunk<'a, 'b, R: Threads + Wait + Sync, G: Gate + Sync, I: Read>(
 /// The handles of a session meet.
 fn met<'a>(index: &Index, session: Session<'a>) -> Result<Session<'a>, AllocError>
     requires { All (IsSeated index.now) session.handles.items }
-    ensures { IfOk result (λ back. (back.totals ≡ session.entry.totals) × (back.text.items ≡ session.entry.text.items)
+    ensures { IfOk result (λ back. (back.totals ≡ session.entry.totals) × (back.changes ≡ session.entry.changes)
+        × (back.text.items ≡ session.entry.text.items)
         × AllMeet (first_of index.now) (seats_of session.entry.handles.items) (seats_of back.handles.items)) }
 {
     let Session {
@@ -273,6 +298,7 @@ fn met<'a>(index: &Index, session: Session<'a>) -> Result<Session<'a>, AllocErro
         slots,
         totals,
         remarks,
+        changes,
         text,
     } = session;
     meet_all(index, &mut handles)?;
@@ -282,6 +308,7 @@ fn met<'a>(index: &Index, session: Session<'a>) -> Result<Session<'a>, AllocErro
         slots,
         totals,
         remarks,
+        changes,
         text,
     })
 }
@@ -304,6 +331,8 @@ pub fn run_chunk<'a, R: Threads + Wait + Sync, G: Gate + Sync, I: Read>(
         × HoldsSection service.now.index.now session.entry.totals.requests lines.now more
         (seats_of session.entry.handles.items) (seats_of back.handles.items)) }
     ensures fault { IfErr result (IsInside session.entry.totals.requests (length lines.now)) }
+    ensures noted { IfOk result (λ back. service.now.keeps ≡ true
+        → StillNote (seats_of session.entry.handles.items) session.entry.changes (seats_of back.handles.items) back.changes) }
 {
     let session = answer_chunk(rt, service, session, lines, reader, ahead)?;
     Ok(met(service.index, session)?)

@@ -20,6 +20,7 @@ mod session;
 mod starting;
 mod summary;
 
+pub use bl_outside::Outside;
 pub use bl_serve_lines::{Sectioning, ServeFault, Totals};
 pub use bl_serve_worker::{Gate, OpenGate, follow_hint};
 pub use dumping::{dump_by_plan, dump_index};

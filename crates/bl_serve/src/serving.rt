@@ -5,8 +5,12 @@ ghost use Rattle.std.specs.Io.KnownBytes.{Appends, Consumes, IsAtEnd};
 ghost use Rattle.bl_serve_lines.specs.Served.{Stops};
 ghost use Rattle.bl_index.specs.Calls.{first_of, pages_of, map_after};
 ghost use Rattle.bl_map.specs.Handles.{seats_of};
+ghost use Rattle.bl_journal.specs.Rows.{Leads};
+ghost use Rattle.bl_outside.specs.Crashes.{FindsOnly};
+ghost use Rattle.bl_serve.specs.Noting.{StillNote};
 ghost use Rattle.bl_serve.specs.Reading.{EndsReading, ReadsOn};
 ghost use Rattle.bl_serve.specs.Sections.{CountsSection, rests};
+ghost use Rattle.bl_serve.specs.Surviving.{Survives};
 ghost use Rattle.bl_serve.specs.Serving.{AreMet, AreTogether, EndsServing, FailsSection, IsInside, Serves, ServesSection, seen_by};
 
 use crate::chunks::{new_slots, run_chunk};
@@ -14,10 +18,12 @@ use crate::parsed_lines::ParsedLines;
 use crate::section_reader::{ReadAhead, SectionEnd, read_on};
 use crate::session::{Session, ThreadPlan};
 use crate::summary::{Remarks, Summary, summed_up};
+use bl_changes::{Changes, histories_lead};
 use bl_hints::Hints;
 use bl_index::{Index, Pass};
 use bl_map::{Handle, give_seats, handles_over};
-use bl_model::{Watched, write_out};
+use bl_model::Watched;
+use bl_outside::{Outside, keep_and_print};
 use bl_serve_lines::print::{Response, push_line};
 use bl_serve_lines::request::Request;
 use bl_serve_lines::{Sectioning, ServeFault, Totals};
@@ -97,6 +103,8 @@ fn serve_chunk<'a, T: Threads + Wait + Sync, R: Read, G: Gate + Sync>(
     ensures reads { OnOk result (ReadsOn ahead.old ahead.new (R.remaining reader.old.inner) (R.remaining reader.new.inner) (reader.new.failed ≡ true)) }
     ensures consumes { (more : List ℕ) × Consumes (R.remaining reader.old.inner) (R.remaining reader.new.inner) more }
     ensures fault { IfErr result (IsInside session.entry.totals.requests (length lines.now)) }
+    ensures noted { IfOk result (λ back. service.now.keeps ≡ true
+        → StillNote (seats_of session.entry.handles.items) session.entry.changes (seats_of back.handles.items) back.changes) }
 {
     let mut session = run_chunk(rt, service, session, lines, reader, ahead)?;
     let before = session.totals.requests;
@@ -110,21 +118,24 @@ fn serve_chunk<'a, T: Threads + Wait + Sync, R: Read, G: Gate + Sync>(
     Ok(session)
 }
 
-/// The same session, with no text. What it had is measured.
+/// The same session, with no changes and no text. What text it had is measured.
 fn emptied(session: Session<'_>) -> Session<'_>
     ensures text { result.text.items ≡ [] }
+    ensures came { result.changes.came.items ≡ [] }
+    ensures went { result.changes.went.items ≡ [] }
     ensures handles { result.handles.items ≡ session.entry.handles.items }
     ensures totals { result.totals ≡ session.entry.totals }
 {
     let mut session = session;
     let bytes = session.text.len();
     session.remarks.measure(bytes);
+    session.changes.clear();
     session.text.clear();
     session
 }
 
 /// Reads a section, answers it and counts its lines, in chunks: while the lines of one are answered, the next ones are read. The
-/// text then holds the output, and nothing else.
+/// text then holds the output, and nothing else. Where changes are noted, they lead from the map before the section to that behind it.
 fn serve_section<'a, T: Threads + Wait + Sync, R: Read, G: Gate + Sync>(
     rt: &T,
     service: &Service<'_, G>,
@@ -135,7 +146,7 @@ fn serve_section<'a, T: Threads + Wait + Sync, R: Read, G: Gate + Sync>(
 ) -> Result<(Session<'a>, SectionEnd), ServeFault>
     requires met { AreMet service.now.index.now session.handles.items }
     requires requests { session.totals.requests < 2 ^ 64 }
-    ensures { (requests : List (Option Request)) × (rest : List ℕ) × (more : List ℕ)
+    ensures serves { (requests : List (Option Request)) × (rest : List ℕ) × (more : List ℕ)
         × Consumes (R.remaining reader.old.inner) (R.remaining reader.new.inner) more
         × MatchResult result
         (λ t. EndsReading service.now.sections (Ok t.1) (2 ^ 64 - 1 - session.entry.totals.requests) requests rest (ahead.old.source ++ more) ahead.new.source
@@ -145,6 +156,9 @@ fn serve_section<'a, T: Threads + Wait + Sync, R: Read, G: Gate + Sync>(
         (seats_of session.entry.handles.items) (seats_of t.0.handles.items))
         (λ fault. (left : List ℕ) × FailsSection service.now.sections fault session.entry.totals.requests (2 ^ 64 - 1 - session.entry.totals.requests) requests rest
         (ahead.old.source ++ more) left (IsAtEnd (R.remaining reader.new.inner)) (reader.new.failed ≡ true)) }
+    ensures leads { IfOk result (λ t. service.now.keeps ≡ true → Leads t.0.changes.came.items t.0.changes.went.items
+        (map_after (first_of service.now.index.now) (seen_by (seats_of session.entry.handles.items)))
+        (map_after (first_of service.now.index.now) (seen_by (seats_of t.0.handles.items)))) }
 {
     let mut session = emptied(session);
     let mut chunk = FIRST_CHUNK;
@@ -168,27 +182,35 @@ fn serve_section<'a, T: Threads + Wait + Sync, R: Read, G: Gate + Sync>(
         let back = serve_chunk(rt, service, session, lines, end, reader, ahead)?;
         session = back;
         if !open {
+            // The law by which what was noted leads from map to map.
+            histories_lead();
             return Ok((session, end));
         }
     }
     unreachable!()
 }
 
-/// Serves all sections from the first line on, and writes the output of each when it has ended.
-fn serve_sections<'a, T: Threads + Wait + Sync, R: Read, W: Write, G: Gate + Sync>(
+/// Serves all sections from the first line on. When one has ended, what it has changed is kept, and then its output is printed.
+fn serve_sections<'a, T: Threads + Wait + Sync, R: Read, O: Outside, G: Gate + Sync>(
     rt: &T,
     service: &Service<'_, G>,
     session: Session<'a>,
     reader: &mut Watched<R>,
-    writer: &mut Watched<W>,
+    outside: &mut O,
 ) -> Result<Session<'a>, ServeFault>
     requires met { AreMet service.now.index.now session.handles.items }
     requires first { (session.totals.requests ≡ 0) × (session.totals.malformed ≡ 0) × (session.totals.sections ≡ 0) }
+    requires log { O.is_modelled outside.old → (service.now.keeps ≡ true)
+        × O.holds outside.old (map_after (first_of service.now.index.now) (seen_by (seats_of session.handles.items))) }
     ensures serves { EndsServing (λ s. Serves service.now.sections service.now.index.now (seats_of session.entry.handles.items) (seats_of s.handles.items) s.totals)
         (Stops service.now.sections (pages_of service.now.index.now) (map_after (first_of service.now.index.now) (seen_by (seats_of session.entry.handles.items))))
         (R.remaining reader.old.inner) (R.remaining reader.new.inner) (reader.new.failed ≡ true)
-        (W.contents writer.old.inner) (W.contents writer.new.inner) (writer.new.failed ≡ true) result }
-    ensures flushed { OnOk result (writer.new.pending ≡ false) }
+        (O.printed outside.old) (O.printed outside.new) (O.has_failed outside.new) result }
+    ensures flushed { OnOk result (O.is_flushed outside.new) }
+    // What a crash finds at any moment.
+    ensures any_moment { O.is_modelled outside.old → (read : List ℕ) × Consumes (R.remaining reader.old.inner) (R.remaining reader.new.inner) read
+        × FindsOnly O.moment O.finds outside.old outside.new (Survives service.now.sections (pages_of service.now.index.now)
+        (map_after (first_of service.now.index.now) (seen_by (seats_of session.entry.handles.items))) read (O.printed outside.old)) }
 {
     let mut ahead = ReadAhead::new(service.alloc)?;
     let mut lines = ParsedLines::new(service.alloc);
@@ -196,7 +218,8 @@ fn serve_sections<'a, T: Threads + Wait + Sync, R: Read, W: Write, G: Gate + Syn
     for _section in 0..u64::MAX {
         let (back, end) = serve_section(rt, service, session, &mut lines, reader, &mut ahead)?;
         session = back;
-        match write_out(writer, session.text.as_slice()) {
+        let text = session.text.as_slice();
+        match keep_and_print(outside, service.alloc, &session.changes, text) {
             Ok(()) => {}
             Err(_) => return Err(ServeFault::Write),
         }
@@ -229,6 +252,7 @@ fn begun(
         slots,
         totals,
         remarks: Remarks::new(),
+        changes: Changes::new(alloc),
         text: Vec::new(alloc),
     })
 }
@@ -276,23 +300,31 @@ pub fn serve<T: Threads + Wait + Sync, R: Read, W: Write, G: Gate + Sync>(
     }
 }
 
-/// The same by a plan, which may have fewer threads for few requests, and other sections. It tells what else was counted.
-pub fn serve_with<T: Threads + Wait + Sync, R: Read, W: Write, G: Gate + Sync>(
+/// The same by a plan, which may have fewer threads for few requests, and other sections; and it tells what else was counted. Where the
+/// outside keeps a log, this is the log of the map that the passes have seen, and what a section has changed is kept before its replies are
+/// printed: after a crash at any moment the log has all operations of each line whose reply was printed, each once; of the section under
+/// way all or none; and of lines behind it none.
+pub fn serve_with<T: Threads + Wait + Sync, R: Read, O: Outside, G: Gate + Sync>(
     rt: &T,
     index: &Index,
     passes: Vec<Pass>,
     reader: &mut Watched<R>,
-    writer: &mut Watched<W>,
+    outside: &mut O,
     gate: &G,
     plan: ThreadPlan,
 ) -> Result<(Summary, Vec<Pass>), ServeFault>
     requires together { AreTogether index.now (seen_by passes.items) passes.items }
     requires some { 0 < vec_len passes }
+    requires log { O.is_modelled outside.old → O.holds outside.old (map_after (first_of index.now) (seen_by passes.items)) }
     ensures serves { EndsServing (λ t. Serves plan.sections index.now passes.items t.1.items t.0.totals)
         (Stops plan.sections (pages_of index.now) (map_after (first_of index.now) (seen_by passes.items)))
         (R.remaining reader.old.inner) (R.remaining reader.new.inner) (reader.new.failed ≡ true)
-        (W.contents writer.old.inner) (W.contents writer.new.inner) (writer.new.failed ≡ true) result }
-    ensures flushed { OnOk result (writer.new.pending ≡ false) }
+        (O.printed outside.old) (O.printed outside.new) (O.has_failed outside.new) result }
+    ensures flushed { OnOk result (O.is_flushed outside.new) }
+    // What a crash finds at any moment.
+    ensures any_moment { O.is_modelled outside.old → (read : List ℕ) × Consumes (R.remaining reader.old.inner) (R.remaining reader.new.inner) read
+        × FindsOnly O.moment O.finds outside.old outside.new
+        (Survives plan.sections (pages_of index.now) (map_after (first_of index.now) (seen_by passes.items)) read (O.printed outside.old)) }
 {
     let mut passes = passes;
     let handles = handles_over(index, &mut passes)?;
@@ -303,16 +335,18 @@ pub fn serve_with<T: Threads + Wait + Sync, R: Read, W: Write, G: Gate + Sync>(
         hints: &hints,
         gate,
         sections: plan.sections,
+        keeps: outside.keeps(),
         alloc,
     };
     let fresh = begun(alloc, plan, handles)?;
-    let session = serve_sections(rt, &service, fresh, reader, writer)?;
+    let session = serve_sections(rt, &service, fresh, reader, outside)?;
     let Session {
         plan: _,
         handles,
         slots,
         totals,
         remarks,
+        changes: _,
         text,
     } = session;
     give_seats(handles, &mut passes);

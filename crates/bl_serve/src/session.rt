@@ -3,6 +3,7 @@
 ghost use Rattle.std.specs.Prelude.{◌≡◌, ◌<◌, ◌≤◌, vec_len};
 
 use crate::summary::Remarks;
+use bl_changes::Changes;
 use bl_map::Handle;
 use bl_serve_lines::{Sectioning, Totals};
 use bl_serve_worker::Slot;
@@ -29,7 +30,7 @@ pub struct ThreadPlan {
     pub sections: Sectioning,
 }
 
-/// The handles of a server, each with its slot, what was counted, and the output of the section that is open.
+/// The handles of a server, each with its slot, what was counted, and the changes and the output of the section that is open.
 #[derive(Drop)]
 pub struct Session<'a> {
     pub plan: ThreadPlan,
@@ -37,6 +38,8 @@ pub struct Session<'a> {
     pub slots: Vec<Slot>,
     pub totals: Totals,
     pub remarks: Remarks,
+    /// The rows that the section has changed so far, where these are noted.
+    pub changes: Changes,
     pub text: Vec<u8>,
     pub ghost some: { 0 < vec_len handles },
     pub ghost paired: { vec_len slots ≡ vec_len handles },

@@ -3,8 +3,12 @@
 ghost use Rattle.std.specs.Prelude.{◌≡◌, ◌+◌, ◌^◌, ◌≤◌, ℕ, List, [], ◌++◌, true, IfOk, MatchResult, false, OnOk};
 ghost use Rattle.bl_index.specs.Opened.{IsBegun, IsReopened};
 ghost use Rattle.bl_serve.specs.Begun.{IsBegunFrom};
-ghost use Rattle.bl_serve.specs.Origins.{HasPages, MayServe, ServedFrom, StopsFrom};
+ghost use Rattle.bl_serve.specs.Origins.{HasPages, HasRows, MayServe, ServedFrom, StopsFrom, size_of};
+ghost use Rattle.bl_serve.specs.Surviving.{Survives};
 ghost use Rattle.bl_serve.specs.Serving.{EndsServing};
+ghost use Rattle.bl_model.specs.Rows.{map_of};
+ghost use Rattle.bl_outside.specs.Crashes.{FindsOnly};
+ghost use Rattle.std.specs.Io.KnownBytes.{Consumes};
 
 use crate::origin::Origin;
 use crate::serving::serve_with;
@@ -13,6 +17,7 @@ use crate::summary::Summary;
 use bl_check::Quiet;
 use bl_index::{Config, Index, OpenFault, Pass};
 use bl_model::Watched;
+use bl_outside::Outside;
 use bl_serve_lines::{Sectioning, ServeFault, Totals};
 use bl_serve_worker::OpenGate;
 use std::alloc::{AllocError, Global};
@@ -109,24 +114,29 @@ pub fn serve_index<T: Threads + Wait + Sync, R: Read, W: Write>(
 
 /// The same by a plan, and what else was counted. Where each line is a section, its reply is written and flushed before the next line
 /// is read, and the history is in the order of the lines.
-pub fn serve_by_plan<T: Threads + Wait + Sync, R: Read, W: Write>(
+pub fn serve_by_plan<T: Threads + Wait + Sync, R: Read, O: Outside>(
     rt: &T,
     alloc: Global,
     origin: Origin,
     plan: ServePlan,
     reader: &mut Watched<R>,
-    writer: &mut Watched<W>,
+    outside: &mut O,
 ) -> Result<Summary, ServeFault>
     requires pages { HasPages origin }
     requires passes { MayServe plan }
+    requires log { O.is_modelled outside.old → (rows : List (ℕ × ℕ)) × HasRows origin rows × O.holds outside.old (map_of rows) }
     ensures serves { EndsServing (λ s. ServedFrom plan.sections origin s.totals) (StopsFrom plan.sections origin)
         (R.remaining reader.old.inner) (R.remaining reader.new.inner) (reader.new.failed ≡ true)
-        (W.contents writer.old.inner) (W.contents writer.new.inner) (writer.new.failed ≡ true) result }
-    ensures flushed { OnOk result (writer.new.pending ≡ false) }
+        (O.printed outside.old) (O.printed outside.new) (O.has_failed outside.new) result }
+    ensures flushed { OnOk result (O.is_flushed outside.new) }
+    // What a crash finds at any moment.
+    ensures any_moment { O.is_modelled outside.old → (rows : List (ℕ × ℕ)) → HasRows origin rows
+        → (read : List ℕ) × Consumes (R.remaining reader.old.inner) (R.remaining reader.new.inner) read
+        × FindsOnly O.moment O.finds outside.old outside.new (Survives plan.sections (size_of origin) (map_of rows) read (O.printed outside.old)) }
 {
     let threads = plan_of(plan);
     let (index, passes) = open_index(alloc, origin, plan.workers + plan.compressors)?;
-    match serve_with(rt, &index, passes, reader, writer, &OpenGate, threads) {
+    match serve_with(rt, &index, passes, reader, outside, &OpenGate, threads) {
         Ok((summary, _)) => Ok(summary),
         Err(fault) => Err(fault),
     }

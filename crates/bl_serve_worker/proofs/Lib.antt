@@ -3,3 +3,4 @@ pub mod Shares
 pub mod Dealt
 pub mod OneByOne
 pub mod Counting
+pub mod Noting

@@ -1,5 +1,5 @@
 -- Shares that a pass answers one after another.
-use Rattle.std.proofs.Common.{◌≡◌, ℕ, List, [], ◌∷◌, ◌++◌, length, map, sym, ap, ◌∙◌, append_assoc, append-nil}
+use Rattle.std.proofs.Common.{◌≡◌, ℕ, Bool, List, [], ◌∷◌, ◌++◌, length, map, sym, ap, ◌∙◌, append_assoc, append-nil}
 use Rattle.std.specs.Prelude.{Option, flat_map}
 use Rattle.std.proofs.lemmas.List.{map-append}
 use Rattle.std.proofs.lemmas.List.Concat.{flat_map-append}
@@ -21,6 +21,7 @@ use Rattle.bl_map.proofs.Same.{kept_as}
 use Rattle.bl_serve_worker.specs.Answering.{AnswersLines}
 use Rattle.bl_serve_worker.specs.Shares.{Piece, IsPiece, Logs, WorksOn}
 use Rattle.bl_serve_worker.proofs.Lines.{by_same_map, goes_on, stays}
+use Rattle.bl_serve_worker.proofs.Noting.{noted_idle}
 
 pub no_logs : (first : List (Option Page)) (pages number : ℕ) (deals : List ℕ) (lines : List (Option Request)) (pass : ℕ) (old : Trail) (log : List ShareOutput) → Logs first pages number deals lines pass old old log log
 no_logs first pages number deals lines pass old log = record { pieces = []; log = sym (append-nil log); each = All-nil (IsPiece pages number deals lines); begins = stays old; seen = λ s. s; mine = sym (append-nil (own pass old)) }
@@ -51,8 +52,8 @@ pub idle_logs : (first : List (Option Page)) (pages number : ℕ) (deals : List 
 idle_logs first pages number deals lines pass old new log is a = record { pieces = []; log = is; each = All-nil (IsPiece pages number deals lines); begins = a.begins; seen = a.seen; mine = a.none ∙ sym (append-nil (own pass old)) }
 
 -- a turn, and then what adds no entry
-pub turn_idle : (a b c : Handle) (number : ℕ) (deals : List ℕ) (lines : List (Option Request)) (slot : Slot) → WorksOn number deals lines a b slot → IsSameHandle b c → HasKeptUp b c → WorksOn number deals lines a c slot
-turn_idle a b c number deals lines slot t same kept = let k = kept_as a b c t.0 kept in (
+pub turn_idle : (a b c : Handle) (keeps : Bool) (number : ℕ) (deals : List ℕ) (lines : List (Option Request)) (slot : Slot) → WorksOn keeps number deals lines a b slot → IsSameHandle b c → HasKeptUp b c → WorksOn keeps number deals lines a c slot
+turn_idle a b c keeps number deals lines slot t same kept = let k = kept_as a b c t.0 kept in (
   same_again a b c t.0 same,
   λ ok. let x = t.1 ok in record {
     pieces = x.pieces;
@@ -62,4 +63,5 @@ turn_idle a b c number deals lines slot t same kept = let k = kept_as a b c t.0 
     seen = λ s. k.seen (x.seen s);
     mine = k.none ∙ x.mine;
   },
+  λ ok kept_so. noted_idle a b c slot.changes t.0 kept (t.2 ok kept_so),
 )

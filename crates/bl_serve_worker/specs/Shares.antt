@@ -1,5 +1,5 @@
 -- What a handle does for a chunk of lines.
-use Rattle.std.specs.Prelude.{◌≡◌, ◌≢◌, ◌≤◌, ◌<◌, ℕ, ◌++◌, List, [], All, Option, Some, None, slice_index, false, flat_map, map, length}
+use Rattle.std.specs.Prelude.{◌≡◌, ◌≢◌, ◌≤◌, ◌<◌, ℕ, ◌++◌, List, [], All, Bool, Option, Some, None, slice_index, true, false, flat_map, map, length}
 use Rattle.std.specs.List.{AllZip}
 use Rattle.bl_serve_lines.specs.declared.request.Request.{Request}
 use Rattle.bl_serve_lines.specs.Lines.{Answer, entries}
@@ -12,6 +12,7 @@ use Rattle.bl_map.specs.Handles.{IsSameHandle, first_map_of, pages_of_map, numbe
 use Rattle.bl_serve_worker.specs.declared.chunk.ShareOutput.{ShareOutput}
 use Rattle.bl_serve_worker.specs.declared.chunk.Slot.{Slot}
 use Rattle.bl_serve_worker.specs.Answering.{IsFor, joined_text, replies}
+use Rattle.bl_serve_worker.specs.Noting.{HasNoted}
 
 -- the first place from that one on that is the share's, if there is one
 abbrev pub IsNextPlace : ℕ → List ℕ → ℕ → Option ℕ → Type 0
@@ -46,6 +47,7 @@ abbrev pub IsWork : ℕ → List ℕ → List (Option Request) → Handle → Ha
 IsWork number deals lines old new slot =
     Logs (first_map_of old) (pages_of_map old) number deals lines (number_of_seat old) (seen_by old) (seen_by new) [] slot.log.items
 
--- It has done its work, if there was memory for what it wrote.
-abbrev pub WorksOn : ℕ → List ℕ → List (Option Request) → Handle → Handle → Slot → Type 0
-WorksOn number deals lines old new slot = IsSameHandle old new × (slot.failed ≡ false → IsWork number deals lines old new slot)
+-- It has done its work, if there was memory for what it wrote. The changes in its slot, if changes are kept, are those of its new entries.
+abbrev pub WorksOn : Bool → ℕ → List ℕ → List (Option Request) → Handle → Handle → Slot → Type 0
+WorksOn keeps number deals lines old new slot = IsSameHandle old new × (slot.failed ≡ false → IsWork number deals lines old new slot)
+    × (slot.failed ≡ false → keeps ≡ true → HasNoted (number_of_seat old) (seen_by old) (seen_by new) slot.changes)

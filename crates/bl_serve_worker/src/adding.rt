@@ -5,6 +5,7 @@ ghost use Rattle.bl_model.specs.Replies.{reply_of};
 ghost use Rattle.bl_map.specs.Handles.{IsSameHandle};
 ghost use Rattle.bl_serve_lines.specs.Lines.{sum_reply, value_in as told};
 ghost use Rattle.bl_serve_worker.specs.Answering.{HasAdded, HasAnswered};
+ghost use Rattle.bl_serve_worker.specs.Noting.{Notes};
 
 use crate::answering::write;
 use crate::aside::Aside;
@@ -45,6 +46,7 @@ fn sum_up<R: Wait>(
 ) -> KeyReply
     ensures same { IsSameHandle handle.old handle.new }
     ensures adds { HasAdded key added (reply_of result) handle.old handle.new }
+    ensures noted { Notes handle.old aside.old handle.new aside.new }
 {
     let found = handle.find(rt, key);
     let Some(mut value) = value_in(found) else {
@@ -73,6 +75,7 @@ pub(crate) fn add<R: Wait>(
 ) -> Result<(), AllocError>
     ensures same { IsSameHandle handle.old handle.new }
     ensures answers { OnOk result (HasAnswered number (Some (Request.Add key added)) text.old.items text.new.items handle.old handle.new) }
+    ensures noted { Notes handle.old aside.old handle.new aside.new }
 {
     let reply = sum_up(rt, aside, handle, key, added);
     push_key_line(text, number, reply)

@@ -8,6 +8,7 @@ ghost use Rattle.bl_model.specs.Writes.{write_op, IsRead};
 ghost use Rattle.bl_serve_lines.specs.Dealt.{dealt, numbers};
 ghost use Rattle.bl_serve_worker.specs.Shares.{IsNextPlace};
 ghost use Rattle.bl_serve_worker.specs.Answering.{HasAnswered, HasAnsweredAll};
+ghost use Rattle.bl_serve_worker.specs.Noting.{Notes};
 
 use crate::adding::add;
 use crate::aside::Aside;
@@ -48,9 +49,10 @@ pub(crate) fn write<R: Wait>(
 ) -> KeyReply
     ensures same { IsSameHandle handle.old handle.new }
     ensures called { HasCalled (write_op key write) (reply_of result) handle.old handle.new }
+    ensures noted { Notes handle.old aside.old handle.new aside.new }
 {
     let (reply, left) = handle.write_leaving(rt, key, write);
-    aside.take(rt, reply, left);
+    aside.take(rt, key, write, reply, left);
     reply
 }
 
@@ -130,6 +132,7 @@ fn operate<R: Wait>(
 ) -> Result<(), AllocError>
     ensures same { IsSameHandle handle.old handle.new }
     ensures answers { OnOk result (HasAnswered number (Some (Request.Ask op)) text.old.items text.new.items handle.old handle.new) }
+    ensures noted { OnOk result (Notes handle.old aside.old handle.new aside.new) }
 {
     match op.write() {
         Some((key, does)) => {
@@ -152,6 +155,7 @@ fn answer<R: Wait, G: Gate>(
 ) -> Result<(), AllocError>
     ensures same { IsSameHandle handle.old handle.new }
     ensures answers { OnOk result (HasAnswered number request text.old.items text.new.items handle.old handle.new) }
+    ensures noted { OnOk result (Notes handle.old aside.old handle.new aside.new) }
 {
     let gate = service.gate;
     match request {
@@ -209,6 +213,7 @@ pub(crate) fn answer_share<R: Wait, G: Gate>(
     ensures share { IfOk result (λ output. output.share ≡ share) }
     ensures answers { IfOk result (λ output. HasAnsweredAll (dealt share chunk.now.deals.now (numbers (suc chunk.now.before) (length chunk.now.lines.now)))
         (dealt share chunk.now.deals.now chunk.now.lines.now) output.text.items output.lengths.items handle.old handle.new) }
+    ensures noted { OnOk result (Notes handle.old aside.old handle.new aside.new) }
 {
     let service = chunk.service;
     let mut text = Vec::new(service.alloc);

@@ -4,6 +4,7 @@ ghost use Rattle.std.specs.Prelude.{◌≡◌, ◌+◌, ◌<◌, ◌^◌, length
 
 use crate::service::Service;
 use crate::wakeup::Wakeup;
+use bl_changes::Changes;
 use bl_serve_lines::request::Request;
 use crossbeam_channel::Receiver;
 
@@ -32,9 +33,11 @@ pub struct Slot {
     /// It is the last one: where the input ends with the chunk, its handle puts the index in order behind all others.
     pub last: bool,
     pub log: Vec<ShareOutput>,
+    /// The rows that its writes have changed in the chunk, where these are noted.
+    pub changes: Changes,
     /// How many requests of the handle found no room, in all chunks so far.
     pub norooms: u64,
-    /// There was no memory for all that it was to write.
+    /// There was no memory for all that it was to write and to note.
     pub failed: bool,
 }
 

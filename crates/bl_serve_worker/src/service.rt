@@ -16,5 +16,7 @@ pub struct Service<'a, G> {
     pub gate: &'a G,
     /// Whoever reads lines ends a section behind these.
     pub sections: Sectioning,
+    /// Whether workers note the rows that their writes change.
+    pub keeps: bool,
     pub alloc: Global,
 }

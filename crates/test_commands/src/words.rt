@@ -172,6 +172,28 @@ fn words_of_the_command_line(rt: HostRuntime) -> Result<(), Fail> {
     Ok(())
 }
 
+/// Whether a command line asks for a server that goes on with the log of that folder; None where it asks for no server.
+fn goes_on_with(alloc: Global, text: &str, folder: Option<&str>) -> Result<Option<bool>, Fail> {
+    Ok(match invoked(alloc, text)? {
+        Some(Invocation::Serve(server)) => Some(server.log.as_deref() == folder),
+        _ => None,
+    })
+}
+
+#[test]
+fn a_server_is_asked_for_a_log(rt: HostRuntime) -> Result<(), Fail> {
+    for (text, folder, wanted) in [
+        ("blink serve", None, Some(true)),
+        ("blink serve --log kept", Some("kept"), Some(true)),
+        ("blink serve --image old.image --log kept", Some("kept"), Some(true)),
+        ("blink serve --log", None, None),
+        ("blink dump new.image --log kept", None, None),
+    ] {
+        assert!(rt; goes_on_with(rt.alloc(), text, folder)? == wanted, "{text}");
+    }
+    Ok(())
+}
+
 /// Whether that file is to be checked, and whether it is to be replayed.
 fn is_for_file(invocation: &Invocation, file: &str) -> (bool, bool) {
     match invocation {

@@ -12,6 +12,8 @@ mod gates;
 #[cfg(test)]
 mod lines;
 #[cfg(test)]
+mod logs;
+#[cfg(test)]
 mod passes;
 #[cfg(test)]
 mod served;

@@ -12,9 +12,12 @@ use Rattle.bl_serve_lines.proofs.Known.{consumes_more}
 use Rattle.bl_index.specs.declared.index.Pass.{Pass}
 use Rattle.bl_map.specs.Handles.{seats_of}
 use Rattle.bl_serve.specs.declared.section_reader.SectionEnd.TheVariants as section_end
+use Rattle.bl_serve.specs.Noting.{HaveNoted}
 use Rattle.bl_serve.specs.Reading.{EndsReading}
-use Rattle.bl_serve.specs.Serving.{FailsSection, ServesSection}
+use Rattle.bl_serve.specs.Serving.{FailsSection, ServesSection, seen_by}
 use Rattle.bl_serve.proofs.Holding.{together_by_first}
+use Rattle.bl_serve.proofs.Led.{leads}
+use Rattle.bl_serve.proofs.Noting.{nothing_noted}
 use Rattle.bl_serve.proofs.Continuing.{HasServed, served_nothing, any_failed, ends_section, counts_all, serves_all, fails_answering, goes_on, finished_by, finished_none}
 use Rattle.bl_serve.proofs.Together.{seats_long}
 use Rattle.bl_serve.proofs.serving.serve_section.Goals as goal
@@ -32,11 +35,13 @@ loop-init g c = let r = c.read_on.ensures in record {
       (served_nothing c.args.service.now.sections c.args.service.now.index.now (seats_of c.args.session.handles.items) c.args.session.totals (c.args.ahead.now.source ++ r.more) c.emptied-session.result.text.items c.emptied-session.ensures.text c.requires.met (let a = c.args.session.some in let d = c.args.session.handles.ok in let e = seats_long c.args.session.handles.items in omega (arith, a, d, e)) c.requires.requests);
   sections = r.same ∙ sym (behind_none c.args.service.now.sections);
   reads = subst (λ (n : Sectioning × ℕ). EndsReading n.0 c.read_on.new.ahead.end n.1 c.read_on.new.ahead.lines r.rest (c.args.ahead.now.source ++ r.more) c.read_on.new.ahead.source (IsAtEnd (g.R.Read.remaining c.read_on.new.reader.inner)) (c.read_on.new.reader.failed ≡ true)) (λ i. (sym (behind_none c.args.service.now.sections) i, c.most_behind-ahead.ensures i)) r.reads;
+  noted = λ keeps. subst (λ (z : List Pass). HaveNoted (seats_of c.args.session.handles.items) z c.emptied-session.result.changes) (sym (ap seats_of c.emptied-session.ensures.handles))
+      (nothing_noted (seats_of c.args.session.handles.items) c.emptied-session.result.changes c.emptied-session.ensures.came c.emptied-session.ensures.went);
 }
 
 -- the section could not be read whole
-pub returns-in_err-end : goal.returns-in_err-end
-returns-in_err-end g c = let i = c.loop.invariant in let p = err_from_is_err_and c.from_residual.result c.from_residual.ensures.1 in
+pub returns-in_err-end-clause-serves : goal.returns-in_err-end-clause-serves
+returns-in_err-end-clause-serves g c = let i = c.loop.invariant in let p = err_from_is_err_and c.from_residual.result c.from_residual.ensures.1 in
     let was : c.loop.ahead.end ≡ Err c.in_err-end.field-0.0 = search rules in
     rw (p.1, p.2) (
       i.asked ++ c.loop.ahead.lines,
@@ -54,8 +59,8 @@ pub serve_chunk-requires-clause-met : goal.serve_chunk-requires-clause-met
 serve_chunk-requires-clause-met g c κs within = let i = c.loop.invariant in together_by_first c.args.service.now.index.now _ (seats_of c.loop.session.handles.items) i.served.some i.served.serves.holds.together
 
 -- its next lines could not be answered
-pub returns-in_err-back : goal.returns-in_err-back
-returns-in_err-back g c = let i = c.loop.invariant in let p = err_from_is_err_and c.from_residual-in_err-back.result c.from_residual-in_err-back.ensures.1 in let m = c.in_err-back.ensures.consumes in
+pub returns-in_err-back-clause-serves : goal.returns-in_err-back-clause-serves
+returns-in_err-back-clause-serves g c = let i = c.loop.invariant in let p = err_from_is_err_and c.from_residual-in_err-back.result c.from_residual-in_err-back.ensures.1 in let m = c.in_err-back.ensures.consumes in
     let was : c.loop.ahead.end ≡ Ok c.in_ok-end.end = search rules in
     let lines : c.loop.ahead.lines ≡ c.swap.new.x = search rules in
     let e : EndsReading (after_lines c.args.service.now.sections (length i.asked)) (Ok c.in_ok-end.end) (min c.loop.chunk (18446744073709551615 - c.loop.session.totals.requests)) c.swap.new.x i.rest i.mid c.loop.ahead.source (IsAtEnd (g.R.Read.remaining c.loop.reader.inner)) (c.loop.reader.failed ≡ true)
@@ -75,8 +80,8 @@ returns-in_err-back g c = let i = c.loop.invariant in let p = err_from_is_err_an
     )
 
 -- its last lines were answered
-pub returns-then-not-open : goal.returns-then-not-open
-returns-then-not-open g c = let i = c.loop.invariant in let r = c.in_ok-back.ensures.reads in
+pub returns-then-not-open-clause-serves : goal.returns-then-not-open-clause-serves
+returns-then-not-open-clause-serves g c = let i = c.loop.invariant in let r = c.in_ok-back.ensures.reads in
     let was : c.loop.ahead.end ≡ Ok c.in_ok-end.end = search rules in
     let lines : c.loop.ahead.lines ≡ c.swap.new.x = search rules in
     let e : EndsReading (after_lines c.args.service.now.sections (length i.asked)) (Ok c.in_ok-end.end) (min c.loop.chunk (18446744073709551615 - c.loop.session.totals.requests)) c.swap.new.x i.rest i.mid c.loop.ahead.source (IsAtEnd (g.R.Read.remaining c.loop.reader.inner)) (c.loop.reader.failed ≡ true)
@@ -102,6 +107,16 @@ returns-then-not-open g c = let i = c.loop.invariant in let r = c.in_ok-back.ens
         subst (λ (z : List ℕ). ServesSection c.args.service.now.index.now c.args.session.totals.requests (i.asked ++ c.swap.new.x) c.in_ok-end.end z (seats_of c.args.session.handles.items) (seats_of c.in_ok-back.back.handles.items)) (sym grown) (serves_all c.args.service.now.sections c.args.service.now.index.now (seats_of c.args.session.handles.items) (seats_of c.loop.session.handles.items) c.args.session.totals c.loop.session.totals (c.args.ahead.now.source ++ i.more) i.mid i.asked c.loop.session.text.items i.served c.swap.new.x c.in_ok-end.end c.in_ok-back.ensures.serves.0 (seats_of c.in_ok-back.back.handles.items) c.in_ok-back.ensures.serves.2),
       ),
     )
+
+-- what was noted leads from map to map
+pub returns-then-not-open-clause-leads : goal.returns-then-not-open-clause-leads
+returns-then-not-open-clause-leads g c keeps =
+    let index = c.args.service.now.index.now in let olds = seats_of c.args.session.handles.items in let news = seats_of c.in_ok-back.back.handles.items in
+    let noted = c.in_ok-back.ensures.noted keeps olds (c.loop.invariant.noted keeps) in
+    let h = c.in_ok-back.ensures.serves.2.holds in
+    let some : 0 < length olds = (let a = c.args.session.some in let d = c.args.session.handles.ok in let e = seats_long c.args.session.handles.items in omega (arith, a, d, e)) in
+    let many : 0 < length news = (let a = c.in_ok-back.back.some in let d = c.in_ok-back.back.handles.ok in let e = seats_long c.in_ok-back.back.handles.items in omega (arith, a, d, e)) in
+    leads c.histories_lead.ensures index (seen_by olds) (seen_by news) olds news c.in_ok-back.back.changes some many c.requires.met (together_by_first index _ news many h.together) noted
 
 -- they were answered, and it goes on
 pub loop-preserved : goal.loop-preserved
@@ -130,4 +145,5 @@ loop-preserved g c = let i = c.loop.invariant in let r = c.in_ok-back.ensures.re
           c.in_ok-back.ensures.counts c.in_ok-back.ensures.serves.2);
       sections = r.same ∙ left;
       reads = subst (λ (n : Sectioning × ℕ). EndsReading n.0 c.serve_chunk.new.ahead.end n.1 c.serve_chunk.new.ahead.lines r.rest (c.loop.ahead.source ++ r.more) c.serve_chunk.new.ahead.source (IsAtEnd (g.R.Read.remaining c.serve_chunk.new.reader.inner)) (c.serve_chunk.new.reader.failed ≡ true)) (λ j. (left j, few j)) r.reads;
+      noted = λ keeps. c.in_ok-back.ensures.noted keeps (seats_of c.args.session.handles.items) (i.noted keeps);
     }

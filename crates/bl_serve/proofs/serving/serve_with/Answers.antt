@@ -8,7 +8,11 @@ use Rattle.bl_index.specs.declared.index.Pass.{Pass}
 use Rattle.bl_index.specs.Calls.{first_of, pages_of, map_after}
 use Rattle.bl_map.specs.Handles.{seats_of}
 use Rattle.bl_map.proofs.Handed.{their_seats}
+use Rattle.bl_outside.specs.Crashes.{FindsOnly}
+use Rattle.bl_outside.proofs.Finding.{finds_first}
 use Rattle.bl_serve.specs.Serving.{AreTogether, Serves, seen_by}
+use Rattle.bl_serve.specs.Surviving.{Survives}
+use Rattle.bl_serve.proofs.Surviving.{survives_first}
 use Rattle.bl_serve.proofs.Advance.{no_progress, stops_inside}
 use Rattle.bl_serve.proofs.Holding.{own_together}
 use Rattle.bl_serve.proofs.Together.{seats_long}
@@ -20,11 +24,11 @@ handles_over-requires g c = own_together c.args.index.now (seen_by c.args.passes
 -- no memory at the start
 pub returns-in_err-handles-clause-serves : goal.returns-in_err-handles-clause-serves
 returns-in_err-handles-clause-serves g c = let p = err_from_is_err_and c.from_residual.result c.from_residual.ensures.1 in
-    rw (p.1, p.2) (record { input = []; ahead = []; output = []; consumed = consumes_start _; wrote = appends_start _; ok = tt; fault = stops_inside c.args.plan.sections (pages_of c.args.index.now) (first_of c.args.index.now) (seen_by c.args.passes.items) (seen_by c.args.passes.items) _ [] [] [] Memory (c.args.reader.now.failed ≡ true) (c.args.writer.now.failed ≡ true) (no_progress c.args.plan.sections (pages_of c.args.index.now) (seen_by c.args.passes.items) (record { requests = 0; malformed = 0; sections = 0 }) (refl, refl, refl)) c.requires.together.may_be refl tt })
+    rw (p.1, p.2) (record { input = []; ahead = []; output = []; consumed = consumes_start _; wrote = appends_start _; ok = tt; fault = stops_inside c.args.plan.sections (pages_of c.args.index.now) (first_of c.args.index.now) (seen_by c.args.passes.items) (seen_by c.args.passes.items) _ [] [] [] Memory (c.args.reader.now.failed ≡ true) (g.O.Outside.has_failed c.args.outside.now) (no_progress c.args.plan.sections (pages_of c.args.index.now) (seen_by c.args.passes.items) (record { requests = 0; malformed = 0; sections = 0 }) (refl, refl, refl)) c.requires.together.may_be refl tt })
 
 pub returns-in_err-hints-clause-serves : goal.returns-in_err-hints-clause-serves
 returns-in_err-hints-clause-serves g c = let p = err_from_is_err_and c.from_residual-in_err-hints.result c.from_residual-in_err-hints.ensures.1 in
-    rw (p.1, p.2) (record { input = []; ahead = []; output = []; consumed = consumes_start _; wrote = appends_start _; ok = tt; fault = stops_inside c.args.plan.sections (pages_of c.args.index.now) (first_of c.args.index.now) (seen_by c.args.passes.items) (seen_by c.args.passes.items) _ [] [] [] Memory (c.args.reader.now.failed ≡ true) (c.args.writer.now.failed ≡ true) (no_progress c.args.plan.sections (pages_of c.args.index.now) (seen_by c.args.passes.items) (record { requests = 0; malformed = 0; sections = 0 }) (refl, refl, refl)) c.requires.together.may_be refl tt })
+    rw (p.1, p.2) (record { input = []; ahead = []; output = []; consumed = consumes_start _; wrote = appends_start _; ok = tt; fault = stops_inside c.args.plan.sections (pages_of c.args.index.now) (first_of c.args.index.now) (seen_by c.args.passes.items) (seen_by c.args.passes.items) _ [] [] [] Memory (c.args.reader.now.failed ≡ true) (g.O.Outside.has_failed c.args.outside.now) (no_progress c.args.plan.sections (pages_of c.args.index.now) (seen_by c.args.passes.items) (record { requests = 0; malformed = 0; sections = 0 }) (refl, refl, refl)) c.requires.together.may_be refl tt })
 
 pub begun-requires : goal.begun-requires
 begun-requires g c =
@@ -34,7 +38,7 @@ begun-requires g c =
 
 pub returns-in_err-fresh-clause-serves : goal.returns-in_err-fresh-clause-serves
 returns-in_err-fresh-clause-serves g c = let p = err_from_is_err_and c.from_residual-in_err-fresh.result c.from_residual-in_err-fresh.ensures.1 in
-    rw (p.1, p.2) (record { input = []; ahead = []; output = []; consumed = consumes_start _; wrote = appends_start _; ok = tt; fault = stops_inside c.args.plan.sections (pages_of c.args.index.now) (first_of c.args.index.now) (seen_by c.args.passes.items) (seen_by c.args.passes.items) _ [] [] [] Memory (c.args.reader.now.failed ≡ true) (c.args.writer.now.failed ≡ true) (no_progress c.args.plan.sections (pages_of c.args.index.now) (seen_by c.args.passes.items) (record { requests = 0; malformed = 0; sections = 0 }) (refl, refl, refl)) c.requires.together.may_be refl tt })
+    rw (p.1, p.2) (record { input = []; ahead = []; output = []; consumed = consumes_start _; wrote = appends_start _; ok = tt; fault = stops_inside c.args.plan.sections (pages_of c.args.index.now) (first_of c.args.index.now) (seen_by c.args.passes.items) (seen_by c.args.passes.items) _ [] [] [] Memory (c.args.reader.now.failed ≡ true) (g.O.Outside.has_failed c.args.outside.now) (no_progress c.args.plan.sections (pages_of c.args.index.now) (seen_by c.args.passes.items) (record { requests = 0; malformed = 0; sections = 0 }) (refl, refl, refl)) c.requires.together.may_be refl tt })
 
 pub serve_sections-requires-clause-met : goal.serve_sections-requires-clause-met
 serve_sections-requires-clause-met g c κs within =
@@ -52,7 +56,7 @@ returns-in_err-session-clause-serves g c = let p = err_from_is_err_and c.from_re
       consumed = h.consumed;
       wrote = h.wrote;
       ok = tt;
-      fault = subst (λ (z : List Pass). Stops c.args.plan.sections (pages_of c.args.index.now) (map_after (first_of c.args.index.now) (seen_by z)) (h.input ++ h.ahead) h.output c.in_err-session.field-0.0 (c.serve_sections.new.reader.failed ≡ true) (c.serve_sections.new.writer.failed ≡ true)) seats h.fault;
+      fault = subst (λ (z : List Pass). Stops c.args.plan.sections (pages_of c.args.index.now) (map_after (first_of c.args.index.now) (seen_by z)) (h.input ++ h.ahead) h.output c.in_err-session.field-0.0 (c.serve_sections.new.reader.failed ≡ true) (g.O.Outside.has_failed c.serve_sections.new.outside)) seats h.fault;
     })
 
 pub give_seats-requires : goal.give_seats-requires
@@ -76,3 +80,49 @@ returns-clause-serves g c =
       ok = (subst (λ (z : List Pass × List Pass × Totals). Serves c.args.plan.sections c.args.index.now z.0 z.1 z.2 h.input h.output) (λ i. (seats i, sym back i, sym c.summed_up-summary.ensures i)) h.ok.0, h.ok.1);
       fault = tt;
     }
+
+-- ---- after a crash
+
+pub returns-in_err-handles-clause-any_moment : goal.returns-in_err-handles-clause-any_moment
+returns-in_err-handles-clause-any_moment g c = λ modelled. (
+  [],
+  consumes_start _,
+  finds_first g.O.Outside.moment g.O.Outside.finds c.args.outside.now (Survives c.args.plan.sections (pages_of c.args.index.now) (map_after (first_of c.args.index.now) (seen_by c.args.passes.items)) [] (g.O.Outside.printed c.args.outside.now))
+      (λ told left found. survives_first c.args.plan.sections (pages_of c.args.index.now) (first_of c.args.index.now) (seen_by c.args.passes.items) (record { requests = 0; malformed = 0; sections = 0 }) (g.O.Outside.printed c.args.outside.now) told left (refl, refl, refl) c.requires.together.may_be
+      (g.O.Outside.finds_now c.args.outside.now (map_after (first_of c.args.index.now) (seen_by c.args.passes.items)) told left modelled (c.requires.log modelled) found)),
+)
+
+pub returns-in_err-hints-clause-any_moment : goal.returns-in_err-hints-clause-any_moment
+returns-in_err-hints-clause-any_moment g c = λ modelled. (
+  [],
+  consumes_start _,
+  finds_first g.O.Outside.moment g.O.Outside.finds c.args.outside.now (Survives c.args.plan.sections (pages_of c.args.index.now) (map_after (first_of c.args.index.now) (seen_by c.args.passes.items)) [] (g.O.Outside.printed c.args.outside.now))
+      (λ told left found. survives_first c.args.plan.sections (pages_of c.args.index.now) (first_of c.args.index.now) (seen_by c.args.passes.items) (record { requests = 0; malformed = 0; sections = 0 }) (g.O.Outside.printed c.args.outside.now) told left (refl, refl, refl) c.requires.together.may_be
+      (g.O.Outside.finds_now c.args.outside.now (map_after (first_of c.args.index.now) (seen_by c.args.passes.items)) told left modelled (c.requires.log modelled) found)),
+)
+
+pub returns-in_err-fresh-clause-any_moment : goal.returns-in_err-fresh-clause-any_moment
+returns-in_err-fresh-clause-any_moment g c = λ modelled. (
+  [],
+  consumes_start _,
+  finds_first g.O.Outside.moment g.O.Outside.finds c.args.outside.now (Survives c.args.plan.sections (pages_of c.args.index.now) (map_after (first_of c.args.index.now) (seen_by c.args.passes.items)) [] (g.O.Outside.printed c.args.outside.now))
+      (λ told left found. survives_first c.args.plan.sections (pages_of c.args.index.now) (first_of c.args.index.now) (seen_by c.args.passes.items) (record { requests = 0; malformed = 0; sections = 0 }) (g.O.Outside.printed c.args.outside.now) told left (refl, refl, refl) c.requires.together.may_be
+      (g.O.Outside.finds_now c.args.outside.now (map_after (first_of c.args.index.now) (seen_by c.args.passes.items)) told left modelled (c.requires.log modelled) found)),
+)
+
+pub serve_sections-requires-clause-log : goal.serve_sections-requires-clause-log
+serve_sections-requires-clause-log g c κs within = λ modelled.
+    let seats = ap seats_of c.in_ok-fresh.ensures.handles ∙ their_seats c.args.index.now c.args.passes.items c.in_ok-handles.handles.items c.in_ok-handles.ensures.over in
+    (c.keeps.ensures modelled, subst (λ (z : List Pass). g.O.Outside.holds c.args.outside.now (map_after (first_of c.args.index.now) (seen_by z))) (sym seats) (c.requires.log modelled))
+
+pub returns-in_err-session-clause-any_moment : goal.returns-in_err-session-clause-any_moment
+returns-in_err-session-clause-any_moment g c = λ modelled.
+    let seats = ap seats_of c.in_ok-fresh.ensures.handles ∙ their_seats c.args.index.now c.args.passes.items c.in_ok-handles.handles.items c.in_ok-handles.ensures.over in
+    let h = c.serve_sections.ensures.any_moment modelled in
+    (h.0, h.1, subst (λ (z : List Pass). FindsOnly g.O.Outside.moment g.O.Outside.finds c.args.outside.now c.serve_sections.new.outside (Survives c.args.plan.sections (pages_of c.args.index.now) (map_after (first_of c.args.index.now) (seen_by z)) h.0 (g.O.Outside.printed c.args.outside.now))) seats h.2)
+
+pub returns-clause-any_moment : goal.returns-clause-any_moment
+returns-clause-any_moment g c = λ modelled.
+    let seats = ap seats_of c.in_ok-fresh.ensures.handles ∙ their_seats c.args.index.now c.args.passes.items c.in_ok-handles.handles.items c.in_ok-handles.ensures.over in
+    let h = c.serve_sections.ensures.any_moment modelled in
+    (h.0, h.1, subst (λ (z : List Pass). FindsOnly g.O.Outside.moment g.O.Outside.finds c.args.outside.now c.serve_sections.new.outside (Survives c.args.plan.sections (pages_of c.args.index.now) (map_after (first_of c.args.index.now) (seen_by z)) h.0 (g.O.Outside.printed c.args.outside.now))) seats h.2)

@@ -6,6 +6,7 @@ use Rattle.bl_map.proofs.AllMet.{same_again}
 use Rattle.bl_serve_worker.specs.Shares.{IsNextPlace}
 use Rattle.bl_serve_worker.proofs.Lines.{then_idle, text_grows}
 use Rattle.bl_serve_worker.proofs.Dealt.{no_share, next_of_share, all_of_share}
+use Rattle.bl_serve_worker.proofs.Noting.{no_notes, then_notes, kept_notes}
 use Rattle.bl_serve_worker.proofs.answering.answer_share.Goals as goal
 
 pub lines-init : goal.lines-init
@@ -13,6 +14,7 @@ lines-init g c = record {
   low = omega arith;
   same = search rules;
   so_far = no_share c.args.handle.now c.args.share c.args.chunk.now.before c.args.chunk.now.deals.now c.args.chunk.now.lines.now c.new-text.result.items c.new-lengths.result.items (seen_by c.args.handle.now) c.new-text.ensures.items c.new-lengths.ensures.items;
+  noted = no_notes c.args.handle.now c.args.aside.now;
 }
 
 pub overflow_sub-len : goal.overflow_sub-len
@@ -34,6 +36,8 @@ lines-preserved g c =
       same = same_again c.args.handle.now answered swept (same_again c.args.handle.now before answered c.lines.invariant.same c.answer.ensures.same) c.sweep_if_may.ensures.same;
       so_far = next_of_share c.args.handle.now c.args.share chunk.before chunk.deals.now chunk.lines.now before c.lines.from place number text more c.lines.lengths.items c.push.new.self.items
           (seen_by c.args.handle.now) (seen_by before) (seen_by swept) c.lines.invariant.same chunk.dealt next refl grown c.lines.invariant.so_far one;
+      noted = then_notes c.args.handle.now before swept c.args.aside.now c.lines.aside c.answer.new.aside c.lines.invariant.noted
+          (then_notes before answered swept c.lines.aside c.answer.new.aside c.answer.new.aside c.in_ok-answer.ensures.noted (kept_notes answered swept c.answer.new.aside c.sweep_if_may.ensures.same c.sweep_if_may.ensures.kept));
     }
 
 pub returns-clause-answers : goal.returns-clause-answers
