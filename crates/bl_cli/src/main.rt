@@ -163,7 +163,11 @@ fn replay(rt: &HostRuntime, file: &str, with_pages: bool) -> ExitCode {
 
 /// What a server begins with: the image in that file, where one is named. Where it cannot be had, that is said, and how the
 /// program ends.
-pub(crate) fn origin_of(rt: &HostRuntime, pages: u32, image: Option<&str>) -> Result<Origin, ExitCode>
+pub(crate) fn origin_of(
+    rt: &HostRuntime,
+    pages: u32,
+    image: Option<&str>,
+) -> Result<Origin, ExitCode>
     requires { (4 ≤ pages) × (pages ≤ 2 ^ 28) }
     ensures { IfOk result HasPages }
 {
@@ -200,7 +204,12 @@ fn say_wanted(rt: &HostRuntime, server: &Server)
 
 /// Ends as a server that has met a fault, where these replies were written. Where whoever read them has gone, the status alone
 /// tells it.
-pub(crate) fn end_serving(rt: &HostRuntime, server: &Server, fault: ServeFault, writer: Output<'_>) -> ExitCode
+pub(crate) fn end_serving(
+    rt: &HostRuntime,
+    server: &Server,
+    fault: ServeFault,
+    writer: Output<'_>,
+) -> ExitCode
     requires { AreWithin server.now.options }
 {
     let fault = CommandFault::from(fault);

@@ -112,10 +112,9 @@ fn image_option<'a>(alloc: Global) -> Result<Arg<'a>, AllocError> {
 
 /// Which log the server goes on with.
 fn log_option<'a>(alloc: Global) -> Arg<'a> {
-    Arg::new(alloc, "log")
-        .long("log")
-        .value_name("FOLDER")
-        .help("Keep what is changed in the log of this folder, before it is answered")
+    Arg::new(alloc, "log").long("log").value_name("FOLDER").help(
+        "Keep what is changed in the log of this folder, before it is answered",
+    )
 }
 
 /// Whether each line is a section, whatever `--section` says.
@@ -215,11 +214,7 @@ fn sections_of(found: &ArgMatches) -> Sectioning {
 }
 
 /// The text of an option or an argument that clap has found.
-fn text_of(
-    alloc: Global,
-    found: &ArgMatches,
-    name: &str,
-) -> Result<Option<String>, AllocError> {
+fn text_of(alloc: Global, found: &ArgMatches, name: &str) -> Result<Option<String>, AllocError> {
     match found.get_str(name) {
         Some(text) => Ok(Some(String::from_str(alloc, text)?)),
         None => Ok(None),
@@ -228,11 +223,7 @@ fn text_of(
 
 /// The server that clap has found. It has refused a value outside the limits; they are kept here too, since its answer is
 /// not known to the proof.
-fn server_of(
-    alloc: Global,
-    found: &ArgMatches,
-    log: Option<String>,
-) -> Result<Server, AllocError>
+fn server_of(alloc: Global, found: &ArgMatches, log: Option<String>) -> Result<Server, AllocError>
     ensures { IfOk result (λ server. AreWithin server.options) }
 {
     let options = ServeOptions::of(

@@ -185,7 +185,11 @@ fn a_server_is_asked_for_a_log(rt: HostRuntime) -> Result<(), Fail> {
     for (text, folder, wanted) in [
         ("blink serve", None, Some(true)),
         ("blink serve --log kept", Some("kept"), Some(true)),
-        ("blink serve --image old.image --log kept", Some("kept"), Some(true)),
+        (
+            "blink serve --image old.image --log kept",
+            Some("kept"),
+            Some(true),
+        ),
         ("blink serve --log", None, None),
         ("blink dump new.image --log kept", None, None),
     ] {

@@ -35,7 +35,8 @@ fn each_section_is_kept_before_it_is_printed(rt: HostRuntime) -> Result<(), Fail
     };
     let none: &[(u64, u64)] = &[];
     let first = b"1 inserted\n2 inserted\n3 synced\n".as_slice();
-    let both = b"1 inserted\n2 inserted\n3 synced\n4 replaced 50\n5 deleted 60\n6 synced\n".as_slice();
+    let both =
+        b"1 inserted\n2 inserted\n3 synced\n4 replaced 50\n5 deleted 60\n6 synced\n".as_slice();
     let wanted = [
         (b"".as_slice(), none),
         (b"".as_slice(), &[(5, 50), (6, 60)]),
