@@ -54,12 +54,12 @@ pub fn open_image(alloc: Global, bytes: &[u8], seats: u32) -> Result<Vec<Seat>, 
         Err(Fault::Memory) => return Err(ImageFault::Memory),
         Err(_) => return Err(ImageFault::Image),
     };
-    match Index::open_image(alloc, quiet, seats) {
+    match Index::begin_with(alloc, quiet, seats) {
         Ok((index, passes)) => match shared(alloc, index, passes) {
             Ok(seats) => Ok(seats),
             Err(_) => Err(ImageFault::Memory),
         },
-        Err((_, OpenFault::Memory)) => Err(ImageFault::Memory),
+        Err(OpenFault::Memory) => Err(ImageFault::Memory),
         Err(_) => Err(ImageFault::Seats),
     }
 }

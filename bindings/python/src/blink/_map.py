@@ -159,7 +159,7 @@ class Map(MutableMapping[int, int]):
             if not hasattr(rows, "__len__"):
                 rows = list(rows)
             pages = max(_PAGES, len(rows) // _ROWS_A_PAGE)
-        if pages is None or image is None or lib.blink_image_length(pages) == len(image):
+        if pages is None or image is None or int.from_bytes(image[12:16], "little") == pages:
             self._begin(pages or _PAGES, seats, image, path)
         else:
             with Map.from_image(image, seats=1) as old:
@@ -508,10 +508,12 @@ class Map(MutableMapping[int, int]):
     def _close_to(self, goes_on: bool) -> tuple[bytearray, bool]:
         """Closes the map to its image, and opens it again where it is to go on: the image, and whether it does."""
         image, is_open = bytearray(lib.blink_image_length(self.pages)), _new("bool *", goes_on)
-        code = lib.shim_image(self._at, ffi.from_buffer("uint8_t[]", image), len(image), is_open)
+        size = _new("size_t *", len(image))
+        code = lib.shim_image(self._at, ffi.from_buffer("uint8_t[]", image), size, is_open)
         if code != _OK:
             _refuse(code)
-        return image, bool(is_open[0])
+        # That of a large map may be shorter.
+        return image if size[0] == len(image) else image[: size[0]], bool(is_open[0])
 
     def image(self) -> bytes:
         """The map's image. Calls of other threads wait meanwhile, since it is closed and opened again."""
