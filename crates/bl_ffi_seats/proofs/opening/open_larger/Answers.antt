@@ -2,4 +2,4 @@ use Rattle.bl_ffi_seats.proofs.Begun.{all_begun}
 use Rattle.bl_ffi_seats.proofs.opening.open_larger.Goals as goal
 
 pub shared-requires : goal.shared-requires
-shared-requires c = all_begun _ _ _ c.in-Ok-open_larger.index _ c.in-Ok-open_larger.ensures.ok.begun
+shared-requires c = all_begun _ _ _ c.in-Ok.index _ c.in-Ok.ensures.ok.begun
