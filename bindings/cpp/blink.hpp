@@ -512,9 +512,7 @@ public:
     void resize(uint32_t pages) {
         const std::lock_guard<std::mutex> hold(seats_->lock);
         auto &seats = *seats_;
-        if (seats.is_closed) detail::refuse(BLINK_CLOSED);
-        if (seats.free.size() != seats.handles) detail::refuse(BLINK_SEATS_OPEN);
-        std::vector<uint8_t> bytes(blink_image_length(seats.pages));
+        std::vector<uint8_t> bytes = room_for_image(seats);
         uint64_t length = 0;
         const int32_t code = blink_resize(seats.free.data(), seats.free.size(), pages,
                                           bytes.data(), bytes.size(), &length);
@@ -535,9 +533,7 @@ public:
     std::vector<uint8_t> close_image() {
         const std::lock_guard<std::mutex> hold(seats_->lock);
         auto &seats = *seats_;
-        if (seats.is_closed) detail::refuse(BLINK_CLOSED);
-        if (seats.free.size() != seats.handles) detail::refuse(BLINK_SEATS_OPEN);
-        std::vector<uint8_t> bytes(blink_image_length(seats.pages));
+        std::vector<uint8_t> bytes = room_for_image(seats);
         uint64_t length = 0;
         const int32_t code = blink_close_image(seats.free.data(), seats.free.size(),
                                                bytes.data(), bytes.size(), &length);
@@ -559,6 +555,12 @@ private:
     }
     static void opened(int32_t code) {
         if (code != BLINK_OK) detail::refuse(code);
+    }
+    // Room for the image of a map that is open, with all handles back.
+    static std::vector<uint8_t> room_for_image(const detail::Seats &seats) {
+        if (seats.is_closed) detail::refuse(BLINK_CLOSED);
+        if (seats.free.size() != seats.handles) detail::refuse(BLINK_SEATS_OPEN);
+        return std::vector<uint8_t>(blink_image_length(seats.pages));
     }
     [[noreturn]] static void lose(std::vector<uint8_t> image) {
 #if defined(__cpp_exceptions)
