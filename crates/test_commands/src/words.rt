@@ -174,7 +174,8 @@ fn words_of_the_command_line(rt: HostRuntime) -> Result<(), Fail> {
 
 /// Whether a command line asks for a server that goes on with the log of that folder; None where it asks for no server.
 fn goes_on_with(alloc: Global, text: &str, folder: Option<&str>) -> Result<Option<bool>, Fail> {
-    Ok(match invoked(alloc, text)? {
+    let found = invoked(alloc, text)?;
+    Ok(match &found {
         Some(Invocation::Serve(server)) => Some(server.log.as_deref() == folder),
         _ => None,
     })
