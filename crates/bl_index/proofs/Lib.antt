@@ -18,3 +18,4 @@ pub mod Gathered
 pub mod AtRest
 pub mod Reopening
 pub mod Resized
+pub mod GivingUp

@@ -1,5 +1,5 @@
 -- What a call tells the pass that makes it.
-use Rattle.std.specs.Prelude.{◌≡◌, ◌≢◌, ℕ, ◌++◌, Option, Some, None, List, length, ◌≤◌}
+use Rattle.std.specs.Prelude.{◌≡◌, ◌≢◌, ℕ, ◌++◌, Option, Some, None, List, [], length, ◌≤◌}
 use Rattle.bl_model.specs.Map.{Map, IsMapStep}
 use Rattle.bl_model.specs.History.{final_map}
 use Rattle.bl_model.specs.declared.deciding.KeyWrite.{KeyWrite}
@@ -17,6 +17,7 @@ use Rattle.bl_answers.specs.declared.answers.Posted.{Posted}
 use Rattle.bl_answers.specs.declared.answers.Squeezed.{Squeezed}
 use Rattle.bl_answers.specs.declared.answers.Lowered.{Lowered}
 use Rattle.bl_claims.specs.Answers.{MeansPosted}
+use Rattle.bl_claims.specs.Meanings.{writes_of}
 use Rattle.bl_claims.specs.Hinted.{MeansInserted, MeansWritten}
 use Rattle.bl_claims.specs.Climbed.{MeansClimbed}
 use Rattle.bl_claims.specs.Squeezed.{MeansSqueezed}
@@ -146,6 +147,11 @@ pub record Compresses (first : List (Option Page)) (pass level key : ℕ) (answe
   pub adds : SaysNothing first pass old new
   pub means : MeansSqueezed level key answer next (marks_of (name pass adds.number) new)
   pub latches : LatchesBeside level key (marks_of (name pass adds.number) new)
+
+-- A call has not been done: it says nothing of the map, and its process has written nothing.
+pub record GivesUp (first : List (Option Page)) (pass : ℕ) (old new : Trail) : Type 0 where
+  pub adds : SaysNothing first pass old new
+  pub none : writes_of (marks_of (name pass adds.number) new) ≡ []
 
 -- A lowering is answered: it says nothing of the map, and what its process has done is what its answer means. When it latched a
 -- page it held the anchor at most.
