@@ -27,10 +27,10 @@ use Rattle.bl_index_events.specs.Answered.{Undone, WritesNothing}
 use Rattle.bl_index_events.specs.Runs.{IsSince}
 use Rattle.bl_index_events.proofs.Silent.{IsSilent, may_give_up, gives_up_undone}
 use Rattle.bl_index_write.specs.Briefs.{IsLowerBack, IsSinkBack}
-use Rattle.bl_index.specs.Calls.{GivesUp, LowersTree}
+use Rattle.bl_index.specs.Calls.{LowersTree}
 use Rattle.bl_index.specs.Within.{HasSunk, is_at_top}
 use Rattle.bl_index.proofs.Lowerings.{lower_answered}
-use Rattle.std.specs.Prelude.{IfSome, IfNone}
+use Rattle.std.specs.Prelude.{IfSome}
 use Rattle.bl_answers.specs.declared.answers.Lowered.{Lowered}
 
 -- where it may
@@ -124,9 +124,6 @@ lower_may_give_up p state free is = may_give_up state (proc.Lower p) is (unwritt
 pub lower_undone : (p : Lower) (pass : ℕ) (old d e : PassState) → MayLeave p.stage → IsSince pass old d → d.state ≡ proc.Lower p → Finishes None d e → Leaves d.state (marks_of (name d.pass d.number) e.trail) → Undone WritesNothing pass old e
 lower_undone p pass old d e free since is t left = gives_up_undone WritesNothing (proc.Lower p) (λ marks leaves. leaves) pass old d e since is (lower_may_give_up p d.state free is) t left
 
-pub undone_in : (first : List (Option Page)) (pass : ℕ) (old e : PassState) → old.first ≡ first → Undone WritesNothing pass old e → GivesUp first pass old.trail e.trail
-undone_in first pass old e begins u = subst (λ z. GivesUp z pass old.trail e.trail) begins (record { adds = u.says; none = u.left })
-
 -- one that has just begun is to look at the anchor
 begun_looks : {a b : LowerStage} {what : Seen} → LowerCase a what b → a ≡ lower.New → b ≡ lower.Sinking lowering.Looking
 begun_looks (LowerCase.Began l t) e = ap lower.Sinking t
@@ -141,7 +138,3 @@ begun_free p q new t = (λ r. subst LowerRefused (begun_looks (lower_case p.stag
 pub sunk_told : (from : List (Option Page)) (pass : ℕ) (old e : PassState) → old.first ≡ from → (r : Option Lowered) → IfSome r (HasSunk pass old e) → IfSome r (λ what. LowersTree from pass what old.trail e.trail)
 sunk_told from pass old e begins None h = tt
 sunk_told from pass old e begins (Some what) h = lower_answered from pass old e h.first h.last what h.done begins h.answer
-
-pub undone_told : (from : List (Option Page)) (pass : ℕ) (old e : PassState) → old.first ≡ from → (r : Option Lowered) → IfNone r (Undone WritesNothing pass old e) → IfNone r (GivesUp from pass old.trail e.trail)
-undone_told from pass old e begins None h = undone_in from pass old e begins h
-undone_told from pass old e begins (Some what) h = tt

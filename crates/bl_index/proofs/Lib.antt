@@ -19,3 +19,4 @@ pub mod AtRest
 pub mod Reopening
 pub mod Resized
 pub mod GivingUp
+pub mod Attempts

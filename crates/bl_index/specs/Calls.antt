@@ -1,5 +1,5 @@
 -- What a call tells the pass that makes it.
-use Rattle.std.specs.Prelude.{◌≡◌, ◌≢◌, ℕ, ◌++◌, Option, Some, None, List, [], length, ◌≤◌}
+use Rattle.std.specs.Prelude.{◌≡◌, ◌≢◌, ℕ, ◌++◌, Option, Some, None, List, length, ◌≤◌}
 use Rattle.bl_model.specs.Map.{Map, IsMapStep}
 use Rattle.bl_model.specs.History.{final_map}
 use Rattle.bl_model.specs.declared.deciding.KeyWrite.{KeyWrite}
@@ -17,7 +17,6 @@ use Rattle.bl_answers.specs.declared.answers.Posted.{Posted}
 use Rattle.bl_answers.specs.declared.answers.Squeezed.{Squeezed}
 use Rattle.bl_answers.specs.declared.answers.Lowered.{Lowered}
 use Rattle.bl_claims.specs.Answers.{MeansPosted}
-use Rattle.bl_claims.specs.Meanings.{writes_of}
 use Rattle.bl_claims.specs.Hinted.{MeansInserted, MeansWritten}
 use Rattle.bl_claims.specs.Climbed.{MeansClimbed}
 use Rattle.bl_claims.specs.Squeezed.{MeansSqueezed}
@@ -93,6 +92,10 @@ IsSamePass old new = (new.hand.seat.table_id ≡ old.hand.seat.table_id) × (new
 abbrev pub StepsAlone : List (Option Page) → Index → Op → Reply → Trail → Trail → Type 0
 StepsAlone first index op reply old new = index.store.layout.passes ≡ 1 → IsMapStep (map_after first old) op reply (map_after first new)
 
+-- In an index of one pass the map is as it was.
+abbrev pub StaysAlone : List (Option Page) → Index → Trail → Trail → Type 0
+StaysAlone first index old new = index.store.layout.passes ≡ 1 → map_after first new ≡ map_after first old
+
 -- A sweep of the pass that answered a number. Its events are releases of pages, no more than that number, all of them by one
 -- process of its own, which had done nothing before and does not begin. The entries of the pass are those of before, and if
 -- what the pass had seen was linearizable, then so is what it has seen now.
@@ -148,10 +151,10 @@ pub record Compresses (first : List (Option Page)) (pass level key : ℕ) (answe
   pub means : MeansSqueezed level key answer next (marks_of (name pass adds.number) new)
   pub latches : LatchesBeside level key (marks_of (name pass adds.number) new)
 
--- A call has not been done: it says nothing of the map, and its process has written nothing.
-pub record GivesUp (first : List (Option Page)) (pass : ℕ) (old new : Trail) : Type 0 where
+-- A call has not been done: it says nothing of the map, and its process has given up and leaves no more than that.
+pub record GivesUp (Left : Trail → Type 0) (first : List (Option Page)) (pass : ℕ) (old new : Trail) : Type 0 where
   pub adds : SaysNothing first pass old new
-  pub none : writes_of (marks_of (name pass adds.number) new) ≡ []
+  pub left : Left (marks_of (name pass adds.number) new)
 
 -- A lowering is answered: it says nothing of the map, and what its process has done is what its answer means. When it latched a
 -- page it held the anchor at most.

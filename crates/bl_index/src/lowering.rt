@@ -69,6 +69,7 @@ fn lower_briefly(tree: &Tree, hand: &mut Hand<PassState>) -> Option<Lowered>
 
 impl Index {
     ghost use Rattle.bl_store.specs.Hands.{WasRefused};
+    ghost use Rattle.bl_index_events.specs.Answered.{WritesNothing};
     ghost use Rattle.bl_index.specs.Calls.{first_of, IsPassOf, IsSamePass, number_of, trail, LowersTree, GivesUp};
 
     /// Takes the top level of the tree away, while other threads read and write, where it is one page with one pair, no bound and
@@ -91,7 +92,7 @@ impl Index {
         ensures same { IsSamePass pass.old pass.new }
         ensures lowers { IfSome result (λ what. LowersTree (first_of self.now) (number_of pass.old) what (trail pass.old) (trail pass.new)) }
         ensures no_room { IfSome result (λ what. what ≡ answer.NoRoom → WasRefused pass.new.hand.seat 0 2) }
-        ensures undone { IfNone result (GivesUp (first_of self.now) (number_of pass.old) (trail pass.old) (trail pass.new)) }
+        ensures undone { IfNone result (GivesUp WritesNothing (first_of self.now) (number_of pass.old) (trail pass.old) (trail pass.new)) }
     {
         lower_briefly(&self.tree, &mut pass.hand)
     }
