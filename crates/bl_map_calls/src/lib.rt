@@ -20,6 +20,8 @@ pub mod many;
 pub mod ranging;
 pub mod room;
 pub mod telling;
+pub mod trying;
 pub mod updating;
 pub mod upkeep;
+pub mod walking;
 pub mod writes;
