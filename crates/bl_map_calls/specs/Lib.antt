@@ -1,3 +1,4 @@
+pub mod Seats
 pub mod Works
 pub mod Entries
 pub mod Finds

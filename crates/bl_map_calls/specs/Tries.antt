@@ -12,9 +12,10 @@ use Rattle.bl_answers.specs.declared.answers.Squeezed.TheVariants as squeezed
 use Rattle.bl_waiting.specs.declared.waiting.Waiting.{Waiting}
 use Rattle.bl_waiting.specs.Queue.{hints_of, IsKept, IsTaken}
 use Rattle.bl_index_events.specs.Answered.{WritesNothing}
-use Rattle.bl_index.specs.Calls.{Writes, Compresses, GivesUp, Sweeps}
+use Rattle.bl_index.specs.Calls.{Writes, Compresses, GivesUp}
 use Rattle.bl_map_calls.specs.declared.upkeep.Followed.{Followed}
 use Rattle.bl_map_calls.specs.declared.upkeep.Followed.TheVariants as followed
+use Rattle.bl_map_calls.specs.declared.walking.Walk.{Walk}
 use Rattle.bl_map_calls.specs.Works.{Swept}
 use Rattle.bl_map_calls.specs.Follows.{may_fall, Lowers, FollowsHint}
 
@@ -60,35 +61,60 @@ pub data TriesNext (first : List (Option Page)) (pass : ℕ) : Option Followed �
   OldestTried : {hint : Hint} {result : Option Followed} {before others after : Waiting} {old new : Trail} → IsTaken (Some hint) before others
       → TriesHint first pass hint result old new → IsKept (left_of (Some hint) result) others after → TriesNext first pass result before after old new
 
--- The pass has swept and tried pieces of upkeep, so many, one after another, and has done nothing else: the oldest that waited; or one that it
--- has found, of which what following it has left waits.
-pub data Tends (first : List (Option Page)) (pass : ℕ) : ℕ → Waiting → Waiting → Trail → Trail → Type 0 where
-  NothingTried : {waiting : Waiting} {old : Trail} → Tends first pass 0 waiting waiting old old
-  ThenSwept : {count answer : ℕ} {before after : Waiting} {old mid new : Trail} → Tends first pass count before after old mid
-      → Sweeps first pass answer mid new → Tends first pass count before after old new
-  ThenNext : {count : ℕ} {result : Option Followed} {before waiting after : Waiting} {old mid new : Trail} → Tends first pass count before waiting old mid
-      → TriesNext first pass result waiting after mid new → Tends first pass (suc count) before after old new
-  ThenFound : {count : ℕ} {hint : Hint} {result : Option Followed} {before waiting after : Waiting} {old mid new : Trail}
-      → Tends first pass count before waiting old mid → TriesHint first pass hint result mid new → IsKept (left_of None result) waiting after
-      → Tends first pass (suc count) before after old new
+-- Pieces that wait were tried, the oldest first: so many, or until none waited, or until one was not done.
+pub data TriesPieces (first : List (Option Page)) (pass : ℕ) : ℕ → Waiting → Waiting → Trail → Trail → Type 0 where
+  AsManyDone : {waiting : Waiting} {old : Trail} → TriesPieces first pass 0 waiting waiting old old
+  NoneWaits : {most : ℕ} {waiting : Waiting} {old : Trail} → hints_of waiting ≡ [] → TriesPieces first pass most waiting waiting old old
+  OneDone : {most : ℕ} {next : Option Hint} {before waiting after : Waiting} {old mid new : Trail}
+      → TriesNext first pass (Some (followed.Done next)) before waiting old mid → TriesPieces first pass most waiting after mid new
+      → TriesPieces first pass (suc most) before after old new
+  OneNotDone : {most : ℕ} {result : Option Followed} {before after : Waiting} {old new : Trail} → ((next : Option Hint) → result ≢ Some (followed.Done next))
+      → TriesNext first pass result before after old new → TriesPieces first pass (suc most) before after old new
 
--- It has tried so many at most.
-pub record TendsSome (first : List (Option Page)) (pass most : ℕ) (before after : Waiting) (old new : Trail) : Type 0 where
-  pub count : ℕ
-  pub few : count ≤ most
-  pub tends : Tends first pass count before after old new
+-- Pieces that were found were tried, so many at most. What following one has left waits.
+pub data Mends (first : List (Option Page)) (pass : ℕ) : ℕ → Waiting → Waiting → Trail → Trail → Type 0 where
+  NoneFound : {most : ℕ} {waiting : Waiting} {old : Trail} → Mends first pass most waiting waiting old old
+  OneFound : {most : ℕ} {hint : Hint} {result : Option Followed} {before waiting after : Waiting} {old mid new : Trail}
+      → TriesHint first pass hint result old mid → IsKept (left_of None result) before waiting → Mends first pass most waiting after mid new
+      → Mends first pass (suc most) before after old new
 
--- A key was written: the pass did upkeep, 32 pieces at most, and then one call of it was answered so. What this has left to do waits.
+-- Before a write the pass has swept, tried 16 pieces at most that waited, swept for what it lacked, and tried 16 at most that it found.
+pub record LooksForRoom (first : List (Option Page)) (pass : ℕ) (before after : Waiting) (old new : Trail) : Type 0 where
+  pub swept : Trail
+  pub tried : Trail
+  pub looked : Trail
+  pub waiting : Waiting
+  pub sweeps : Swept first pass old swept
+  pub tries : TriesPieces first pass 16 before waiting swept tried
+  pub looks : Swept first pass tried looked
+  pub mends : Mends first pass 16 waiting after looked new
+
+-- A write is refused for want of room, once more in a row and 32,768 times at most.
+abbrev pub IsRefused : Walk → Walk → Type 0
+IsRefused old new = (old.refused < new.refused) × (new.refused ≤ 32768)
+
+-- A key was written: the pass looked for room, and then one call of it was answered so. What this has left to do waits.
 pub record WritesAtOnce (first : List (Option Page)) (pass : ℕ) (op : Op) (reply : Reply) (before after : Waiting) (old new : Trail) : Type 0 where
   pub hint : Option Hint
   pub waiting : Waiting
   pub mid : Trail
-  pub tends : TendsSome first pass 32 before waiting old mid
+  pub looks : LooksForRoom first pass before waiting old mid
   pub writes : Writes first pass op reply hint mid new
   pub kept : IsKept hint waiting after
 
--- No key was written: the pass did upkeep, 32 pieces at most, and then it found no room and did nothing, or its write was given up.
-pub record WritesNoKey (first : List (Option Page)) (pass : ℕ) (before after : Waiting) (old new : Trail) : Type 0 where
+-- None was: the pass looked for room, and then the write was refused, and nothing more was done; or it was given up.
+pub record WritesNone (first : List (Option Page)) (pass : ℕ) (refused : Type 0) (before after : Waiting) (old new : Trail) : Type 0 where
   pub mid : Trail
-  pub tends : TendsSome first pass 32 before after old mid
-  pub undone : (new ≡ mid) ⊎ GivesUp WritesNothing first pass mid new
+  pub looks : LooksForRoom first pass before after old mid
+  pub undone : (refused × (new ≡ mid)) ⊎ GivesUp WritesNothing first pass mid new
+
+-- Nothing waits, no walk over pages is underway, and no piece was dropped since the last one began.
+abbrev pub HasNothingToDo : Walk → Waiting → Type 0
+HasNothingToDo walk waiting = (hints_of waiting ≡ []) × (walk.next ≡ 0) × (walk.dropped ≡ waiting.dropped)
+
+-- Upkeep was done: pieces that wait were tried, so many; and then, if none waited, 16 at most that were found.
+pub record KeepsUp (first : List (Option Page)) (pass most : ℕ) (before after : Waiting) (old new : Trail) : Type 0 where
+  pub waiting : Waiting
+  pub mid : Trail
+  pub tries : TriesPieces first pass most before waiting old mid
+  pub mends : ((hints_of waiting ≡ []) × Mends first pass 16 waiting after mid new) ⊎ ((after ≡ waiting) × (new ≡ mid))

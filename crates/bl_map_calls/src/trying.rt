@@ -1,16 +1,16 @@
 //! Calls that wait for nothing, for who may not wait: each is done, or is given up where it holds no page, and then nothing of it is left.
 
-ghost use Rattle.std.specs.Prelude.{◌≡◌, ◌+◌, [], true, None, IfSome, IfNone, MatchBool};
+ghost use Rattle.std.specs.Prelude.{◌≡◌, ◌↔◌, ◌<◌, ◌≤◌, true, false, None, IfSome, IfNone, MatchBool};
 ghost use Rattle.bl_answers.specs.Hints.{level_of, key_of};
 ghost use Rattle.bl_answers.specs.declared.answers.Hint.TheVariants as hints;
 ghost use Rattle.bl_model.specs.declared.operation.KeyReply.TheVariants as replies;
 ghost use Rattle.bl_model.specs.Replies.{reply_of};
 ghost use Rattle.bl_model.specs.Writes.{write_op};
-ghost use Rattle.bl_waiting.specs.Queue.{hints_of};
 ghost use Rattle.bl_index.specs.Calls.{first_of, IsPassOf, IsSamePass, number_of, trail, StaysAlone};
 ghost use Rattle.bl_map_calls.specs.Works.{Works, Adds, Swept, FoundNoRoom};
 ghost use Rattle.bl_map_calls.specs.Follows.{Lowers};
-ghost use Rattle.bl_map_calls.specs.Tries.{StopsLowering, TriesHint, TriesNext, TendsSome, WritesAtOnce, WritesNoKey, left_behind, left_of};
+ghost use Rattle.bl_map_calls.specs.Tries.{StopsLowering, TriesHint, TriesNext, TriesPieces, Mends, LooksForRoom, IsRefused, WritesAtOnce, WritesNone};
+ghost use Rattle.bl_map_calls.specs.Tries.{HasNothingToDo, KeepsUp, left_behind, left_of};
 
 use crate::calls::note_change;
 use crate::room::{Extent, wants_walk};
@@ -147,7 +147,7 @@ pub fn try_follow(index: &Index, pass: &mut Pass, waiting: &mut Waiting) -> Opti
 fn try_pieces(index: &Index, pass: &mut Pass, waiting: &mut Waiting, most: u32)
     requires { IsPassOf index.now pass.old }
     ensures same { IsSamePass pass.old pass.new }
-    ensures tends { TendsSome (first_of index.now) (number_of pass.old) most waiting.old waiting.new (trail pass.old) (trail pass.new) }
+    ensures tries { TriesPieces (first_of index.now) (number_of pass.old) most waiting.old waiting.new (trail pass.old) (trail pass.new) }
 {
     for _piece in 0..most {
         if waiting.is_empty() {
@@ -160,17 +160,18 @@ fn try_pieces(index: &Index, pass: &mut Pass, waiting: &mut Waiting, most: u32)
     }
 }
 
-/// Tries the hint of a thin page that was found on a walk. What it has left waits.
-fn mend(index: &Index, pass: &mut Pass, waiting: &mut Waiting, walk: &mut Walk, hint: Hint)
+/// Tries the hint of a thin page that was found on a walk. Says what it has left, which is kept.
+fn mend(index: &Index, pass: &mut Pass, walk: &mut Walk, hint: Hint) -> Option<Followed>
     requires { IsPassOf index.now pass.old }
     ensures same { IsSamePass pass.old pass.new }
-    ensures tends { TendsSome (first_of index.now) (number_of pass.old) 1 waiting.old waiting.new (trail pass.old) (trail pass.new) }
+    ensures tries { TriesHint (first_of index.now) (number_of pass.old) hint result (trail pass.old) (trail pass.new) }
+    ensures refused { walk.new.refused ≡ walk.old.refused }
 {
     let tried = try_hint(index, pass, hint);
     if tried.is_none() {
         walk.note_missed();
     }
-    waiting.keep(left_of(None, tried));
+    tried
 }
 
 /// Goes on with the walk to that page at most, and tries what it finds, so many at most.
@@ -184,13 +185,15 @@ fn mend_some(
 )
     requires { IsPassOf index.now pass.old }
     ensures same { IsSamePass pass.old pass.new }
-    ensures tends { TendsSome (first_of index.now) (number_of pass.old) 16 waiting.old waiting.new (trail pass.old) (trail pass.new) }
+    ensures mends { Mends (first_of index.now) (number_of pass.old) 16 waiting.old waiting.new (trail pass.old) (trail pass.new) }
+    ensures refused { walk.new.refused ≡ walk.old.refused }
 {
     for _piece in 0..PIECES {
         let Some(hint) = walk.next_thin(index, to, extent) else {
             return;
         };
-        mend(index, pass, waiting, walk, hint);
+        let tried = mend(index, pass, walk, hint);
+        waiting.keep(left_of(None, tried));
     }
 }
 
@@ -204,22 +207,22 @@ fn look_on(
 )
     requires { IsPassOf index.now pass.old }
     ensures same { IsSamePass pass.old pass.new }
-    ensures tends { TendsSome (first_of index.now) (number_of pass.old) 16 waiting.old waiting.new (trail pass.old) (trail pass.new) }
+    ensures mends { Mends (first_of index.now) (number_of pass.old) 16 waiting.old waiting.new (trail pass.old) (trail pass.new) }
+    ensures refused { walk.old.refused ≤ walk.new.refused }
 {
     let to = walk.set_out(index, pass, waiting, extent);
     mend_some(index, pass, waiting, walk, to, extent);
     walk.come_to_end(index, pass);
 }
 
-/// Whether a write that may split a leaf while pages are scarce may begin. It sweeps, and looks at some pages for such as are thin.
-fn has_pages(index: &Index, pass: &mut Pass, waiting: &mut Waiting, walk: &mut Walk) -> bool
+/// Looks at some pages for such as are thin, where pages are scarce and it is not known that there is none. Says whether a write that may split
+/// a leaf may begin.
+fn finds_pages(index: &Index, pass: &mut Pass, waiting: &mut Waiting, walk: &mut Walk) -> bool
     requires { IsPassOf index.now pass.old }
     ensures same { IsSamePass pass.old pass.new }
-    ensures tends { TendsSome (first_of index.now) (number_of pass.old) 16 waiting.old waiting.new (trail pass.old) (trail pass.new) }
+    ensures mends { Mends (first_of index.now) (number_of pass.old) 16 waiting.old waiting.new (trail pass.old) (trail pass.new) }
+    ensures refused { result ≡ false → IsRefused walk.old walk.new }
 {
-    if !release(index, pass, Want::Pages) {
-        return walk.is_out_of_patience();
-    }
     let room = &index.tree().store.room;
     if room.lacks_pages() && !room.has_none() {
         look_on(index, pass, waiting, walk, Extent::Enough);
@@ -227,8 +230,23 @@ fn has_pages(index: &Index, pass: &mut Pass, waiting: &mut Waiting, walk: &mut W
     !wants_walk(index) || walk.is_out_of_patience()
 }
 
-/// Does upkeep, and looks for the room that a write may take. Says whether it may begin: it finds room; or none is to be found, or it was told
-/// to come again so often that it is to begin all the same.
+/// Sweeps for frames, and for pages where the write may split a leaf while these are scarce. Says whether it lacks neither.
+fn release_both(index: &Index, pass: &mut Pass, splits: bool) -> bool
+    requires { IsPassOf index.now pass.old }
+    ensures same { IsSamePass pass.old pass.new }
+    ensures swept { Swept (first_of index.now) (number_of pass.old) (trail pass.old) (trail pass.new) }
+{
+    if !release(index, pass, Want::Frames) {
+        return false;
+    }
+    if splits {
+        return release(index, pass, Want::Pages);
+    }
+    true
+}
+
+/// Does upkeep, and looks for the room that a write may take. Says whether it may begin: it finds room; or none is to be found, or it was
+/// refused so often in a row that it is to begin all the same.
 pub fn try_room(
     index: &Index,
     pass: &mut Pass,
@@ -239,14 +257,16 @@ pub fn try_room(
 ) -> bool
     requires { IsPassOf index.now pass.old }
     ensures same { IsSamePass pass.old pass.new }
-    ensures tends { TendsSome (first_of index.now) (number_of pass.old) 32 waiting.old waiting.new (trail pass.old) (trail pass.new) }
+    ensures looks { LooksForRoom (first_of index.now) (number_of pass.old) waiting.old waiting.new (trail pass.old) (trail pass.new) }
+    ensures refused { result ≡ false → IsRefused walk.old walk.new }
 {
     sweep_if_due(index, pass);
     try_pieces(index, pass, waiting, PIECES);
-    if !release(index, pass, Want::Frames) {
+    let splits = index.tree().may_lack_pages(key, write);
+    if !release_both(index, pass, splits) {
         return walk.is_out_of_patience();
     }
-    if index.tree().may_lack_pages(key, write) && !has_pages(index, pass, waiting, walk) {
+    if splits && !finds_pages(index, pass, waiting, walk) {
         return false;
     }
     walk.note_room();
@@ -270,7 +290,8 @@ pub fn try_write(
     ensures works { IfSome result (λ reply. Works (first_of index.now) (number_of pass.old) (write_op key write) (reply_of reply)
         (trail pass.old) (trail pass.new)) }
     ensures no_room { IfSome result (λ reply. reply ≡ replies.NoRoom → FoundNoRoom key write pass.old pass.new) }
-    ensures tends { IfNone result (WritesNoKey (first_of index.now) (number_of pass.old) waiting.old waiting.new (trail pass.old) (trail pass.new)) }
+    ensures none { IfNone result (WritesNone (first_of index.now) (number_of pass.old) (IsRefused walk.old walk.new) waiting.old waiting.new
+        (trail pass.old) (trail pass.new)) }
     ensures undone { IfNone result (Adds (first_of index.now) (number_of pass.old) (trail pass.old) (trail pass.new)) }
     ensures alone { IfNone result (StaysAlone (first_of index.now) index.now (trail pass.old) (trail pass.new)) }
 {
@@ -296,14 +317,11 @@ pub fn try_upkeep(
 ) -> bool
     requires { IsPassOf index.now pass.old }
     ensures same { IsSamePass pass.old pass.new }
-    ensures tends { TendsSome (first_of index.now) (number_of pass.old) (most + 16) waiting.old waiting.new (trail pass.old) (trail pass.new) }
-    ensures none { result ≡ true → hints_of waiting.new ≡ [] }
+    ensures keeps { KeepsUp (first_of index.now) (number_of pass.old) most waiting.old waiting.new (trail pass.old) (trail pass.new) }
+    ensures done { result ≡ true ↔ HasNothingToDo walk.new waiting.new }
 {
     try_pieces(index, pass, waiting, most);
-    if !waiting.is_empty() {
-        return false;
-    }
-    if walk.is_due(waiting) {
+    if waiting.is_empty() && walk.is_due(waiting) {
         look_on(index, pass, waiting, walk, Extent::Whole);
     }
     waiting.is_empty() && !walk.is_due(waiting)

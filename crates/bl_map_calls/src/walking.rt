@@ -1,5 +1,7 @@
 //! A walk over all pages for such as are thin, by calls that may not wait: each goes on where the one before it has stopped.
 
+ghost use Rattle.std.specs.Prelude.{◌≡◌, ◌↔◌, ◌+◌, ◌<◌, ◌≤◌, true, false};
+
 use crate::room::{Extent, PIECE, WALKS, is_enough, wants_walk};
 use crate::upkeep::WAITS_FOR_ROOM;
 use bl_index::{Hint, Index, Pass};
@@ -13,7 +15,7 @@ const STRIDE: u32 = 4_096;
 #[derive(Clone, Copy, Debug, PartialEq, Eq)]
 pub struct Walk {
     /// The page at which it goes on, or 0 where none is underway.
-    next: u32,
+    pub next: u32,
     /// Its number, by which the store knows it.
     number: u64,
     /// How many puts the pass had made when it began.
@@ -21,14 +23,16 @@ pub struct Walk {
     /// Whether a piece was given up on it.
     missed: bool,
     /// How many pieces had been dropped when it began.
-    dropped: u64,
-    /// How long in a row writes were refused: a refusal counts 1, and a whole walk as much as a pass waits for room, shared out to its walks.
-    refused: u32,
+    pub dropped: u64,
+    /// How long in a row writes were refused for want of room, 32,768 at most: a refusal counts 1, and a walk over all pages 8,192.
+    pub refused: u32,
 }
 
 impl Walk {
     /// None is underway.
-    pub fn new() -> Walk {
+    pub fn new() -> Walk
+        ensures { (result.next ≡ 0) × (result.dropped ≡ 0) × (result.refused ≡ 0) }
+    {
         Walk {
             next: 0,
             number: 0,
@@ -40,12 +44,16 @@ impl Walk {
     }
 
     /// Whether all pages are to be looked at for those that were dropped, or are looked at now.
-    pub(crate) fn is_due(&self, waiting: &Waiting) -> bool {
+    pub(crate) fn is_due(&self, waiting: &Waiting) -> bool
+        ensures { result ≡ false ↔ (self.now.next ≡ 0) × (self.now.dropped ≡ waiting.now.dropped) }
+    {
         self.next > 0 || self.dropped != waiting.dropped
     }
 
     /// Whether a write that finds no room is to begin all the same.
-    pub(crate) fn is_out_of_patience(&mut self) -> bool {
+    pub(crate) fn is_out_of_patience(&mut self) -> bool
+        ensures { result ≡ false → (self.new.refused ≡ self.old.refused + 1) × (self.new.refused ≤ 32768) }
+    {
         if self.refused < WAITS_FOR_ROOM {
             self.refused += 1;
             return false;
@@ -60,7 +68,9 @@ impl Walk {
     }
 
     /// A piece was given up on it, so it may not know at its end that there is nothing to find.
-    pub(crate) fn note_missed(&mut self) {
+    pub(crate) fn note_missed(&mut self)
+        ensures { self.new.refused ≡ self.old.refused }
+    {
         self.missed = true;
     }
 
@@ -71,7 +81,9 @@ impl Walk {
         pass: &Pass,
         waiting: &Waiting,
         extent: Extent,
-    ) -> u32 {
+    ) -> u32
+        ensures { self.new.refused ≡ self.old.refused }
+    {
         if self.next == 0 {
             self.next = 1;
             self.number = index.tree().store.room.begin_walk();
@@ -88,7 +100,9 @@ impl Walk {
     }
 
     /// The hint of the next thin page before that one. It stops where pages are no longer scarce, if it is for these.
-    pub(crate) fn next_thin(&mut self, index: &Index, to: u32, extent: Extent) -> Option<Hint> {
+    pub(crate) fn next_thin(&mut self, index: &Index, to: u32, extent: Extent) -> Option<Hint>
+        ensures { self.new.refused ≡ self.old.refused }
+    {
         for page in self.next..to {
             if is_enough(index, extent) {
                 return None;
@@ -103,7 +117,9 @@ impl Walk {
     }
 
     /// Where it has come to the end of all pages, it is over. Where it has changed nothing, all know that there is nothing to find.
-    pub(crate) fn come_to_end(&mut self, index: &Index, pass: &Pass) {
+    pub(crate) fn come_to_end(&mut self, index: &Index, pass: &Pass)
+        ensures { self.old.refused ≤ self.new.refused }
+    {
         if self.next < index.patience() {
             return;
         }
