@@ -2,6 +2,7 @@ pub mod Adding
 pub mod Listing
 pub mod Finding
 pub mod Following
+pub mod Trying
 pub mod Lacking
 pub mod Writing
 pub mod Scanning

@@ -49,10 +49,12 @@ fn try_lowering(index: &Index, pass: &mut Pass, most: u32) -> bool
 {
     for _level in 0..most {
         release(index, pass, Want::Frames);
-        match index.try_lower(pass) {
-            None => return false,
-            Some(Lowered::Lowered) => {}
-            Some(_) => return true,
+        let Some(lowered) = index.try_lower(pass) else {
+            return false;
+        };
+        match lowered {
+            Lowered::Lowered => {}
+            _ => return true,
         }
     }
     true
