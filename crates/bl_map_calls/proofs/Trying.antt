@@ -1,7 +1,6 @@
 -- What calls add that wait for nothing, and how pieces of upkeep are tried one after another.
 use Rattle.std.proofs.Common.{ℕ, suc, ◌≡◌, ◌≢◌, ◌<◌, Option, Some, None, List, [], refl, sym, ap, ◌∙◌, subst, inl, inr, arith}
-use Rattle.std.specs.Prelude.{IfSome, IfNone, MatchBool, Bool, true, false, ◌⊎◌}
-use Rattle.bl_model.specs.declared.deciding.KeyWrite.{KeyWrite}
+use Rattle.std.specs.Prelude.{◌⊎◌}
 use Rattle.bl_model.specs.declared.operation.Op.{Op}
 use Rattle.bl_model.specs.declared.operation.Reply.{Reply}
 use Rattle.bl_page.specs.declared.page.Page.{Page}
@@ -13,17 +12,15 @@ use Rattle.bl_answers.specs.declared.answers.Posted.{Posted}
 use Rattle.bl_answers.specs.declared.answers.Posted.TheVariants as posting
 use Rattle.bl_answers.specs.declared.answers.Squeezed.{Squeezed}
 use Rattle.bl_answers.specs.declared.answers.Squeezed.TheVariants as squeezed
-use Rattle.bl_answers.specs.declared.answers.Lowered.{Lowered}
-use Rattle.bl_answers.specs.declared.answers.Lowered.TheVariants as lowered
 use Rattle.bl_waiting.specs.declared.waiting.Waiting.{Waiting}
 use Rattle.bl_waiting.specs.Queue.{hints_of, IsKept, IsTaken}
 use Rattle.bl_index_events.specs.Answered.{WritesNothing}
-use Rattle.bl_index.specs.Calls.{Posts, Compresses, LowersTree, GivesUp, Writes}
+use Rattle.bl_index.specs.Calls.{Posts, Compresses, GivesUp, Writes}
 use Rattle.bl_map_calls.specs.declared.upkeep.Followed.{Followed}
 use Rattle.bl_map_calls.specs.declared.upkeep.Followed.TheVariants as followed
 use Rattle.bl_map_calls.specs.Works.{Works, Adds, Swept}
-use Rattle.bl_map_calls.specs.Follows.{may_fall, Lowers, FollowsHint}
-use Rattle.bl_map_calls.specs.Tries.{LeftBy, StopsLowering, left_behind, TriesHint, WasFollowed, WasGivenUp, HasNotLowered, left_of, TriesNext, NothingWaits, OldestTried}
+use Rattle.bl_map_calls.specs.Follows.{may_fall, Lowers}
+use Rattle.bl_map_calls.specs.Tries.{StopsLowering, left_behind, TriesHint, WasFollowed, WasGivenUp, HasNotLowered, left_of, TriesNext, NothingWaits, OldestTried}
 use Rattle.bl_map_calls.specs.Tries.{TriesPieces, AsManyDone, NoneWaits, OneDone, OneNotDone, Mends, NoneFound, OneFound, LooksForRoom, WritesAtOnce, WritesNone, KeepsUp}
 use Rattle.bl_map_calls.proofs.Adding.{nothing, then_adds, call_adds, call_works, adds_works, swept_adds, swept_as}
 use Rattle.bl_map_calls.proofs.Following.{hint_adds, lowers_add, stays_adds, posted, post_refused, compressed, compression_refused}
@@ -192,3 +189,34 @@ pub nothing_tried : (first : List (Option Page)) (pass : ℕ) (taken : Option Hi
 nothing_tried first pass taken before others old is t =
     let none : IsTaken None before others = subst (λ (z : Option Hint). IsTaken z before others) is t in
     subst (λ (z : Waiting). TriesNext first pass (Some (followed.Done None)) before z old old) (sym none.1) (NothingWaits none.0)
+
+-- ---- a write
+
+pub wrote_at_once : (first : List (Option Page)) (pass it : ℕ) (op : Op) (reply : Reply) (hint : Option Hint) (before waiting after : Waiting) (old mid new : Trail) → it ≡ pass → LooksForRoom first pass before waiting old mid
+    → Writes first it op reply hint mid new → IsKept hint waiting after → WritesAtOnce first pass op reply before after old new
+wrote_at_once first pass it op reply hint before waiting after old mid new same l w kept = record {
+  hint = hint;
+  waiting = waiting;
+  mid = mid;
+  looks = l;
+  writes = subst (λ (z : ℕ). Writes first z op reply hint mid new) same w;
+  kept = kept;
+}
+
+pub wrote_none_given_up : (first : List (Option Page)) (pass : ℕ) (refused : Type 0) (it : ℕ) (before after : Waiting) (old mid new : Trail) → it ≡ pass → LooksForRoom first pass before after old mid → GivesUp WritesNothing first it mid new
+    → WritesNone first pass refused before after old new
+wrote_none_given_up first pass refused it before after old mid new same l g = record { mid = mid; looks = l; undone = inr (gives_as WritesNothing first pass it mid new same g) }
+
+-- ---- upkeep
+
+pub keeps_on : (first : List (Option Page)) (pass it most : ℕ) (before waiting after : Waiting) (old mid new : Trail) → it ≡ pass → TriesPieces first pass most before waiting old mid
+    → ((hints_of waiting ≡ []) × Mends first it 16 waiting after mid new) ⊎ ((after ≡ waiting) × (new ≡ mid)) → KeepsUp first pass most before after old new
+keeps_on first pass it most before waiting after old mid new same t m = record {
+  waiting = waiting;
+  mid = mid;
+  tries = t;
+  mends = elim m [
+    | inl found ↦ inl (found.0, mends_as first pass it 16 waiting after mid new same found.1)
+    | inr still ↦ inr still
+  ];
+}

@@ -1,11 +1,12 @@
 //! Calls that wait for nothing, for who may not wait: each is done, or is given up where it holds no page, and then nothing of it is left.
 
-ghost use Rattle.std.specs.Prelude.{◌≡◌, ◌↔◌, ◌<◌, ◌≤◌, true, false, None, IfSome, IfNone, MatchBool};
+ghost use Rattle.std.specs.Prelude.{◌≡◌, ◌↔◌, ◌⊎◌, ◌≤◌, [], true, false, None, IfSome, IfNone, MatchBool};
 ghost use Rattle.bl_answers.specs.Hints.{level_of, key_of};
 ghost use Rattle.bl_answers.specs.declared.answers.Hint.TheVariants as hints;
 ghost use Rattle.bl_model.specs.declared.operation.KeyReply.TheVariants as replies;
 ghost use Rattle.bl_model.specs.Replies.{reply_of};
 ghost use Rattle.bl_model.specs.Writes.{write_op};
+ghost use Rattle.bl_waiting.specs.Queue.{hints_of};
 ghost use Rattle.bl_index.specs.Calls.{first_of, IsPassOf, IsSamePass, number_of, trail, StaysAlone};
 ghost use Rattle.bl_map_calls.specs.Works.{Works, Adds, Swept, FoundNoRoom};
 ghost use Rattle.bl_map_calls.specs.Follows.{Lowers};
@@ -217,19 +218,33 @@ fn look_on(
     walk.come_to_end(index, pass);
 }
 
-/// Looks at some pages for such as are thin, where pages are scarce and it is not known that there is none. Says whether a write that may split
-/// a leaf may begin.
+/// Looks at some pages for such as are thin, where pages are scarce and it is not known that there is none.
+fn look_where_scarce(index: &Index, pass: &mut Pass, waiting: &mut Waiting, walk: &mut Walk)
+    requires { IsPassOf index.now pass.old }
+    ensures same { IsSamePass pass.old pass.new }
+    ensures mends { Mends (first_of index.now) (number_of pass.old) 16 waiting.old waiting.new (trail pass.old) (trail pass.new) }
+    ensures refused { walk.old.refused ≤ walk.new.refused }
+{
+    let room = &index.tree().store.room;
+    if room.has_none() || !room.lacks_pages() {
+        return;
+    }
+    look_on(index, pass, waiting, walk, Extent::Enough);
+}
+
+/// The same before a write that may split a leaf. Says whether it may begin.
 fn finds_pages(index: &Index, pass: &mut Pass, waiting: &mut Waiting, walk: &mut Walk) -> bool
     requires { IsPassOf index.now pass.old }
     ensures same { IsSamePass pass.old pass.new }
     ensures mends { Mends (first_of index.now) (number_of pass.old) 16 waiting.old waiting.new (trail pass.old) (trail pass.new) }
     ensures refused { result ≡ false → IsRefused walk.old walk.new }
 {
-    let room = &index.tree().store.room;
-    if room.lacks_pages() && !room.has_none() {
-        look_on(index, pass, waiting, walk, Extent::Enough);
+    look_where_scarce(index, pass, waiting, walk);
+    if !wants_walk(index) {
+        walk.note_room();
+        return true;
     }
-    !wants_walk(index) || walk.is_out_of_patience()
+    walk.is_out_of_patience()
 }
 
 /// Sweeps for frames, and for pages where the write may split a leaf while these are scarce. Says whether it lacks neither.
@@ -268,8 +283,8 @@ pub fn try_room(
     if !release_both(index, pass, splits) {
         return walk.is_out_of_patience();
     }
-    if splits && !finds_pages(index, pass, waiting, walk) {
-        return false;
+    if splits {
+        return finds_pages(index, pass, waiting, walk);
     }
     walk.note_room();
     true
@@ -308,6 +323,19 @@ pub fn try_write(
     Some(reply)
 }
 
+/// Looks at some pages for such as are thin, where nothing waits and some pieces were dropped.
+fn look_where_dropped(index: &Index, pass: &mut Pass, waiting: &mut Waiting, walk: &mut Walk)
+    requires { IsPassOf index.now pass.old }
+    ensures same { IsSamePass pass.old pass.new }
+    ensures mends { ((hints_of waiting.old ≡ []) × Mends (first_of index.now) (number_of pass.old) 16 waiting.old waiting.new (trail pass.old) (trail pass.new))
+        ⊎ ((waiting.new ≡ waiting.old) × (trail pass.new ≡ trail pass.old)) }
+{
+    if !waiting.is_empty() || !walk.is_due(waiting) {
+        return;
+    }
+    look_on(index, pass, waiting, walk, Extent::Whole);
+}
+
 /// Does upkeep: tries pieces that wait, so many at most; and where none waits any more and some were dropped, looks at some pages for such
 /// as are thin. Says whether nothing is left to do.
 pub fn try_upkeep(
@@ -323,8 +351,6 @@ pub fn try_upkeep(
     ensures done { result ≡ true ↔ HasNothingToDo walk.new waiting.new }
 {
     try_pieces(index, pass, waiting, most);
-    if waiting.is_empty() && walk.is_due(waiting) {
-        look_on(index, pass, waiting, walk, Extent::Whole);
-    }
+    look_where_dropped(index, pass, waiting, walk);
     waiting.is_empty() && !walk.is_due(waiting)
 }
