@@ -113,10 +113,6 @@ stops_there first pass it that taken most old mid last new few same same' l s g 
   gives_up = gives_as WritesNothing first pass that last new same' g;
 }
 
--- where none may fall, none was given up
-none_stops : (first : List (Option Page)) (pass most : ℕ) (old new : Trail) → most ≡ 0 → StopsLowering first pass most old new → ⊥
-none_stops first pass most old new is s = let few = s.few in absurd (omega (arith, is, few))
-
 -- ---- a piece
 
 module _ (first : List (Option Page)) (pass it : ℕ) (h : Hint) (level key : ℕ) (old mid new : Trail) (same : it ≡ pass) (s : Swept first pass old mid) where
