@@ -1,6 +1,6 @@
 //! Calls that wait for nothing, for who may not wait: each is done, or is given up where it holds no page, and then nothing of it is left.
 
-ghost use Rattle.std.specs.Prelude.{◌≡◌, ◌↔◌, ◌⊎◌, ◌≤◌, [], true, false, None, IfSome, IfNone, MatchBool};
+ghost use Rattle.std.specs.Prelude.{◌≡◌, ◌↔◌, ◌⊎◌, ◌≤◌, [], true, false, None, IfSome, IfNone};
 ghost use Rattle.bl_answers.specs.Hints.{level_of, key_of};
 ghost use Rattle.bl_answers.specs.declared.answers.Hint.TheVariants as hints;
 ghost use Rattle.bl_model.specs.declared.operation.KeyReply.TheVariants as replies;
@@ -45,8 +45,8 @@ fn release(index: &Index, pass: &mut Pass, want: Want) -> bool
 fn try_lowering(index: &Index, pass: &mut Pass, most: u32) -> bool
     requires { IsPassOf index.now pass.old }
     ensures same { IsSamePass pass.old pass.new }
-    ensures lowers { MatchBool result (Lowers (first_of index.now) (number_of pass.old) most (trail pass.old) (trail pass.new))
-        (StopsLowering (first_of index.now) (number_of pass.old) most (trail pass.old) (trail pass.new)) }
+    ensures lowers { result ≡ true → Lowers (first_of index.now) (number_of pass.old) most (trail pass.old) (trail pass.new) }
+    ensures stops { result ≡ false → StopsLowering (first_of index.now) (number_of pass.old) most (trail pass.old) (trail pass.new) }
 {
     for _level in 0..most {
         release(index, pass, Want::Frames);

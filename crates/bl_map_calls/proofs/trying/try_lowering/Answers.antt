@@ -22,14 +22,14 @@ loop-level-preserved c =
           inv.same.2 (c.release.ensures.same.2 ∙ inv.same.2) c.in-Lowered.is c.release.ensures.swept c.in-Some.ensures.lowers l));
     }
 
-pub returns-in_default-clause-lowers : goal.returns-in_default-clause-lowers
-returns-in_default-clause-lowers c =
+pub returns-in_default-clause-stops : goal.returns-in_default-clause-stops
+returns-in_default-clause-stops c = λ _.
     let inv = c.loop-level.invariant in
     stops_there (first_of c.args.index.now) (number_of c.args.pass.now) _ _ c.loop-level._level c.args.most (trail c.args.pass.now) (trail c.loop-level.pass) (trail c.release.new.pass) (trail c.try_lower.new.pass)
     (omega arith) inv.same.2 (c.release.ensures.same.2 ∙ inv.same.2) (inv.on 0 (trail c.loop-level.pass) NoMore) c.release.ensures.swept c.in_default.ensures.undone
 
 pub returns-in_default-lowered-clause-lowers : goal.returns-in_default-lowered-clause-lowers
-returns-in_default-lowered-clause-lowers c =
+returns-in_default-lowered-clause-lowers c = λ _.
     let inv = c.loop-level.invariant in
     so_many_lowered (first_of c.args.index.now) (number_of c.args.pass.now) (suc (c.args.most - (c.loop-level._level + 1)) + c.loop-level._level) c.args.most (trail c.args.pass.now) (trail c.try_lower.new.pass) (omega arith)
     (inv.on (suc (c.args.most - (c.loop-level._level + 1))) (trail c.try_lower.new.pass)
@@ -37,6 +37,6 @@ returns-in_default-lowered-clause-lowers c =
     inv.same.2 (c.release.ensures.same.2 ∙ inv.same.2) c.in_default-lowered.not-Lowered c.release.ensures.swept c.in-Some.ensures.lowers))
 
 pub returns-clause-lowers : goal.returns-clause-lowers
-returns-clause-lowers c =
+returns-clause-lowers c = λ _.
     so_many_lowered (first_of c.args.index.now) (number_of c.args.pass.now) (0 + c.loop-level._level) c.args.most (trail c.args.pass.now) (trail c.loop-level.pass) (omega arith)
     (c.loop-level.invariant.on 0 (trail c.loop-level.pass) NoMore)
