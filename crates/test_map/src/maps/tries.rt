@@ -4,6 +4,7 @@ ghost use Rattle.std.specs.Prelude.{◌×◌, IfSome};
 ghost use Rattle.bl_index.specs.Calls.{IsPassOf};
 
 use bl_index::{Config, Index, KeyReply, KeyWrite, Pass};
+use bl_index_write::{begin_write, end_write};
 use bl_map_calls::trying::{try_upkeep, try_write};
 use bl_map_calls::walking::Walk;
 use bl_waiting::Waiting;
@@ -140,5 +141,24 @@ fn two_seats_of_one_thread_are_answered(rt: HostRuntime) -> Result<(), Fail> {
     index.sweep(&mut one);
     index.sweep(&mut two);
     assert!(rt; index.room().free_pages == 6);
+    Ok(())
+}
+
+// Another writer holds the only leaf. Key 6 is not in the map meanwhile, and is written once the leaf is open.
+#[test]
+fn what_is_given_up_is_not_in_the_map(rt: HostRuntime) -> Result<(), Fail> {
+    let (index, one, two) = opened(rt.alloc()).ok_or("no index")?;
+    let mut one = one;
+    let mut behind = Behind::new();
+    let insert = KeyWrite::Insert(60);
+    let five = written(&index, &mut one, &mut behind, 5, KeyWrite::Insert(50));
+    assert!(rt; five == Some(KeyReply::Inserted));
+    let mut other = two.into_hand();
+    let (at, glance) = begin_write(index.tree(), &rt, &mut other, 5, KeyWrite::Delete);
+    assert!(rt; written(&index, &mut one, &mut behind, 6, insert).is_none());
+    assert!(rt; is_absent(&index, &mut one, 6));
+    let (gone, _) = end_write(index.tree(), &mut other, at, 5, KeyWrite::Delete, glance);
+    assert!(rt; gone == KeyReply::Deleted(50));
+    assert!(rt; written(&index, &mut one, &mut behind, 6, insert) == Some(KeyReply::Inserted));
     Ok(())
 }
