@@ -188,6 +188,19 @@ nothing_tried first pass taken before others old is t =
 
 -- ---- a write
 
+pub looks_for : (first : List (Option Page)) (pass it that other : ℕ) (before waiting after : Waiting) (old swept tried looked new : Trail) → it ≡ pass → that ≡ pass → other ≡ pass → Swept first pass old swept
+    → TriesPieces first it 16 before waiting swept tried → Swept first that tried looked → Mends first other 16 waiting after looked new → LooksForRoom first pass before after old new
+looks_for first pass it that other before waiting after old swept tried looked new same same' same'' s t l m = record {
+  swept = swept;
+  tried = tried;
+  looked = looked;
+  waiting = waiting;
+  sweeps = s;
+  tries = pieces_as first pass it 16 before waiting swept tried same t;
+  looks = swept_as first pass that tried looked same' l;
+  mends = mends_as first pass other 16 waiting after looked new same'' m;
+}
+
 pub wrote_at_once : (first : List (Option Page)) (pass it : ℕ) (op : Op) (reply : Reply) (hint : Option Hint) (before waiting after : Waiting) (old mid new : Trail) → it ≡ pass → LooksForRoom first pass before waiting old mid
     → Writes first it op reply hint mid new → IsKept hint waiting after → WritesAtOnce first pass op reply before after old new
 wrote_at_once first pass it op reply hint before waiting after old mid new same l w kept = record {

@@ -136,6 +136,7 @@ fn left_of(otherwise: Option<Hint>, tried: Option<Followed>) -> Option<Hint>
 pub fn try_follow(index: &Index, pass: &mut Pass, waiting: &mut Waiting) -> Option<Followed>
     requires { IsPassOf index.now pass.old }
     ensures same { IsSamePass pass.old pass.new }
+    ensures adds { Adds (first_of index.now) (number_of pass.old) (trail pass.old) (trail pass.new) }
     ensures tries { TriesNext (first_of index.now) (number_of pass.old) result waiting.old waiting.new (trail pass.old) (trail pass.new) }
 {
     let Some(hint) = waiting.take() else {
@@ -274,6 +275,7 @@ pub fn try_room(
 ) -> bool
     requires { IsPassOf index.now pass.old }
     ensures same { IsSamePass pass.old pass.new }
+    ensures adds { Adds (first_of index.now) (number_of pass.old) (trail pass.old) (trail pass.new) }
     ensures looks { LooksForRoom (first_of index.now) (number_of pass.old) waiting.old waiting.new (trail pass.old) (trail pass.new) }
     ensures refused { result ≡ false → IsRefused walk.old walk.new }
 {
@@ -347,6 +349,7 @@ pub fn try_upkeep(
 ) -> bool
     requires { IsPassOf index.now pass.old }
     ensures same { IsSamePass pass.old pass.new }
+    ensures adds { Adds (first_of index.now) (number_of pass.old) (trail pass.old) (trail pass.new) }
     ensures keeps { KeepsUp (first_of index.now) (number_of pass.old) most waiting.old waiting.new (trail pass.old) (trail pass.new) }
     ensures done { result ≡ true ↔ HasNothingToDo walk.new waiting.new }
 {
