@@ -164,7 +164,7 @@ fn try_pieces(index: &Index, pass: &mut Pass, waiting: &mut Waiting, most: u32)
     }
 }
 
-/// Tries the hint of a thin page that was found on a walk. Says what it has left, which is kept.
+/// Tries the hint of a thin page that was found on a walk, and notes where it was given up.
 fn mend(index: &Index, pass: &mut Pass, walk: &mut Walk, hint: Hint) -> Option<Followed>
     requires { IsPassOf index.now pass.old }
     ensures same { IsSamePass pass.old pass.new }
@@ -202,13 +202,7 @@ fn mend_some(
 }
 
 /// Goes on with the walk by some pages, or begins one, and tries what it finds.
-fn look_on(
-    index: &Index,
-    pass: &mut Pass,
-    waiting: &mut Waiting,
-    walk: &mut Walk,
-    extent: Extent,
-)
+fn look_on(index: &Index, pass: &mut Pass, waiting: &mut Waiting, walk: &mut Walk, extent: Extent)
     requires { IsPassOf index.now pass.old }
     ensures same { IsSamePass pass.old pass.new }
     ensures mends { Mends (first_of index.now) (number_of pass.old) 16 waiting.old waiting.new (trail pass.old) (trail pass.new) }

@@ -136,7 +136,16 @@ fn two_seats_of_one_thread_are_answered(rt: HostRuntime) -> Result<(), Fail> {
     let mut behind_two = Behind::new();
     for half in 0..8u64 {
         let step = 2 * half + 1;
-        assert!(rt; is_answered(&index, &mut one, &mut behind_one, &mut two, &mut behind_two, step));
+        assert!(rt;
+            is_answered(
+                &index,
+                &mut one,
+                &mut behind_one,
+                &mut two,
+                &mut behind_two,
+                step
+            )
+        );
     }
     index.sweep(&mut one);
     index.sweep(&mut two);
