@@ -1,5 +1,5 @@
 -- What calls add that wait for nothing, and how pieces of upkeep are tried one after another.
-use Rattle.std.proofs.Common.{ℕ, suc, ◌≡◌, ◌≢◌, ◌<◌, Option, Some, None, List, [], refl, sym, ap, ◌∙◌, subst, inl, inr, arith}
+use Rattle.std.proofs.Common.{ℕ, suc, true, false, ◌≡◌, ◌≢◌, ◌<◌, Option, Some, None, List, [], refl, sym, ap, ◌∙◌, subst, inl, inr, arith}
 use Rattle.std.specs.Prelude.{◌⊎◌}
 use Rattle.bl_model.specs.declared.operation.Op.{Op}
 use Rattle.bl_model.specs.declared.operation.Reply.{Reply}
@@ -20,7 +20,7 @@ use Rattle.bl_map_calls.specs.declared.upkeep.Followed.{Followed}
 use Rattle.bl_map_calls.specs.declared.upkeep.Followed.TheVariants as followed
 use Rattle.bl_map_calls.specs.Works.{Works, Adds, Swept}
 use Rattle.bl_map_calls.specs.Follows.{may_fall, Lowers}
-use Rattle.bl_map_calls.specs.Tries.{StopsLowering, left_behind, TriesHint, WasFollowed, WasGivenUp, HasNotLowered, left_of, TriesNext, NothingWaits, OldestTried}
+use Rattle.bl_map_calls.specs.Tries.{StopsLowering, left_behind, TriesHint, WasFollowed, WasGivenUp, HasNotLowered, is_done, left_of, TriesNext, NothingWaits, OldestTried}
 use Rattle.bl_map_calls.specs.Tries.{TriesPieces, AsManyDone, NoneWaits, OneDone, OneNotDone, Mends, NoneFound, OneFound, LooksForRoom, WritesAtOnce, WritesNone, KeepsUp}
 use Rattle.bl_map_calls.proofs.Adding.{nothing, then_adds, call_adds, call_works, adds_works, swept_adds, swept_as}
 use Rattle.bl_map_calls.proofs.Following.{hint_adds, lowers_add, stays_adds, posted, post_refused, compressed, compression_refused}
@@ -46,8 +46,8 @@ next_adds first pass result before after old new (OldestTried {hint = h} taken t
 pub pieces_add : (first : List (Option Page)) (pass most : ℕ) (before after : Waiting) (old new : Trail) → TriesPieces first pass most before after old new → Adds first pass old new
 pieces_add first pass most before after old new AsManyDone = nothing first pass old
 pieces_add first pass most before after old new (NoneWaits none) = nothing first pass old
-pieces_add first pass most before after old new (OneDone {most = fewer} {next = next} {waiting = waiting} {mid = mid} one on) =
-    then_adds first pass old mid new (next_adds first pass (Some (followed.Done next)) before waiting old mid one) (pieces_add first pass fewer waiting after mid new on)
+pieces_add first pass most before after old new (OneDone {most = fewer} {result = result} {waiting = waiting} {mid = mid} done one on) =
+    then_adds first pass old mid new (next_adds first pass result before waiting old mid one) (pieces_add first pass fewer waiting after mid new on)
 pieces_add first pass most before after old new (OneNotDone {result = result} other one) = next_adds first pass result before after old new one
 
 pub mends_add : (first : List (Option Page)) (pass most : ℕ) (before after : Waiting) (old new : Trail) → Mends first pass most before after old new → Adds first pass old new
@@ -156,14 +156,13 @@ module _ (first : List (Option Page)) (pass it that : ℕ) (h : Hint) (level key
 pub so_many_tried : (first : List (Option Page)) (pass n m : ℕ) (before after : Waiting) (old new : Trail) → n ≡ m → TriesPieces first pass n before after old new → TriesPieces first pass m before after old new
 so_many_tried first pass n m before after old new is t = subst (λ (z : ℕ). TriesPieces first pass z before after old new) is t
 
-pub done_one : (first : List (Option Page)) (pass it m : ℕ) (result : Option Followed) (next : Option Hint) (before waiting after : Waiting) (old mid new : Trail) → it ≡ pass → result ≡ Some (followed.Done next)
+pub done_one : (first : List (Option Page)) (pass it m : ℕ) (result : Option Followed) (before waiting after : Waiting) (old mid new : Trail) → it ≡ pass → is_done result ≡ true
     → TriesNext first it result before waiting old mid → TriesPieces first pass m waiting after mid new → TriesPieces first pass (suc m) before after old new
-done_one first pass it m result next before waiting after old mid new same is t on =
-    OneDone (subst (λ (z : Option Followed). TriesNext first pass z before waiting old mid) is (next_as first pass it result before waiting old mid same t)) on
+done_one first pass it m result before waiting after old mid new same done t on = OneDone done (next_as first pass it result before waiting old mid same t) on
 
-pub not_done : (first : List (Option Page)) (pass it m : ℕ) (result : Option Followed) (before after : Waiting) (old new : Trail) → it ≡ pass → ((next : Option Hint) → result ≢ Some (followed.Done next))
+pub not_done : (first : List (Option Page)) (pass it m : ℕ) (result : Option Followed) (before after : Waiting) (old new : Trail) → it ≡ pass → is_done result ≡ false
     → TriesNext first it result before after old new → TriesPieces first pass (suc m) before after old new
-not_done first pass it m result before after old new same other t = OneNotDone other (next_as first pass it result before after old new same t)
+not_done first pass it m result before after old new same not t = OneNotDone not (next_as first pass it result before after old new same t)
 
 pub none_waits : (first : List (Option Page)) (pass n : ℕ) (waiting : Waiting) (old : Trail) → hints_of waiting ≡ [] → TriesPieces first pass n waiting waiting old old
 none_waits first pass n waiting old none = NoneWaits none

@@ -11,7 +11,7 @@ ghost use Rattle.bl_index.specs.Calls.{first_of, IsPassOf, IsSamePass, number_of
 ghost use Rattle.bl_map_calls.specs.Works.{Works, Adds, Swept, FoundNoRoom};
 ghost use Rattle.bl_map_calls.specs.Follows.{Lowers};
 ghost use Rattle.bl_map_calls.specs.Tries.{StopsLowering, TriesHint, TriesNext, TriesPieces, Mends, LooksForRoom, IsRefused, WritesAtOnce, WritesNone};
-ghost use Rattle.bl_map_calls.specs.Tries.{HasNothingToDo, KeepsUp, left_behind, left_of};
+ghost use Rattle.bl_map_calls.specs.Tries.{HasNothingToDo, KeepsUp, is_done, left_behind, left_of};
 
 use crate::calls::note_change;
 use crate::room::{Extent, wants_walk};
@@ -147,6 +147,17 @@ pub fn try_follow(index: &Index, pass: &mut Pass, waiting: &mut Waiting) -> Opti
     tried
 }
 
+/// Whether a piece that was tried is done.
+fn is_done(tried: Option<Followed>) -> bool
+    ensures { result ≡ is_done tried }
+{
+    match tried {
+        Some(Followed::Done(_)) => true,
+        Some(Followed::NoRoom) => false,
+        None => false,
+    }
+}
+
 /// Tries pieces that wait, the oldest first, so many at most, until none waits or one is not done.
 fn try_pieces(index: &Index, pass: &mut Pass, waiting: &mut Waiting, most: u32)
     requires { IsPassOf index.now pass.old }
@@ -157,9 +168,8 @@ fn try_pieces(index: &Index, pass: &mut Pass, waiting: &mut Waiting, most: u32)
         if waiting.is_empty() {
             return;
         }
-        match try_follow(index, pass, waiting) {
-            Some(Followed::Done(_)) => {}
-            _ => return,
+        if !is_done(try_follow(index, pass, waiting)) {
+            return;
         }
     }
 }
