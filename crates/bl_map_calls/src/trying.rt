@@ -344,6 +344,16 @@ fn look_where_dropped(index: &Index, pass: &mut Pass, waiting: &mut Waiting, wal
     look_on(index, pass, waiting, walk, Extent::Whole);
 }
 
+/// Whether nothing is left to do.
+fn has_nothing_to_do(walk: &Walk, waiting: &Waiting) -> bool
+    ensures { result ≡ true ↔ HasNothingToDo walk.now waiting.now }
+{
+    if walk.is_due(waiting) {
+        return false;
+    }
+    waiting.is_empty()
+}
+
 /// Does upkeep: tries pieces that wait, so many at most; and where none waits any more and some were dropped, looks at some pages for such
 /// as are thin. Says whether nothing is left to do.
 pub fn try_upkeep(
@@ -361,5 +371,5 @@ pub fn try_upkeep(
 {
     try_pieces(index, pass, waiting, most);
     look_where_dropped(index, pass, waiting, walk);
-    waiting.is_empty() && !walk.is_due(waiting)
+    has_nothing_to_do(walk, waiting)
 }
