@@ -274,7 +274,18 @@ fn micros(time: Duration) -> u64 {
     u64::try_from(time.as_micros()).unwrap_or(u64::MAX)
 }
 
-/// Inserts, deletes nine of ten, and shrinks.
+/// How many rows a scan lists.
+fn count_left<R: Wait>(rt: &R, map: &Map, seats: Vec<Seat>) -> u64
+    requires { AreSeatsOf map.now seats.items }
+{
+    let mut seats = seats;
+    let Some(seat) = seats.pop() else {
+        return 0;
+    };
+    map.handle(seat).count(rt, 0, None)
+}
+
+/// Inserts, deletes nine of ten, shrinks, and counts what is left.
 fn run<R: Print + Threads + Wait + Clock + Sync>(
     rt: &R,
     alloc: Global,
@@ -298,7 +309,7 @@ fn run<R: Print + Threads + Wait + Clock + Sync>(
     else {
         return Ok(false);
     };
-    let Some((_map, _seats, pages, pause)) = (if load.pages == 0 {
+    let Some((map, seats, pages, pause)) = (if load.pages == 0 {
         shrunk(rt, alloc, map, seats, pages)
     } else {
         Some((map, seats, pages, Duration::from_micros(0)))
@@ -307,6 +318,10 @@ fn run<R: Print + Threads + Wait + Clock + Sync>(
     };
     let taken = micros(start.elapsed(rt)?);
     tell(rt, "gone", [calls, done, taken, micros(pause), u64::from(pages)])?;
+    let start = Instant::now(rt)?;
+    let left = count_left(rt, &map, seats);
+    let taken = micros(start.elapsed(rt)?);
+    tell(rt, "left", [calls / KEPT, left, taken, 0, u64::from(pages)])?;
     Ok(true)
 }
 

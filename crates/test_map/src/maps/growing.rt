@@ -130,7 +130,8 @@ fn shrunk<R: Wait>(rt: &R, alloc: Global) -> Option<[bool; 4]> {
         handle.delete(rt, key);
     }
     let behind = handle.is_sparse();
-    let (map, seat) = smaller(alloc, map, handle.into_seat(), 64)?.ok()?;
+    let seat = handle.into_seat();
+    let (map, seat) = smaller(alloc, map, seat, 64)?.ok()?;
     // The law by which the history goes on.
     shrinking_adds_a_life();
     let mut handle = map.handle(seat);
@@ -150,7 +151,8 @@ fn too_small<R: Wait>(rt: &R, alloc: Global) -> Option<MapLoadFault> {
     for key in 0..100 {
         handle.insert(rt, key, key + 5);
     }
-    smaller(alloc, map, handle.into_seat(), 8)?.err()
+    let seat = handle.into_seat();
+    smaller(alloc, map, seat, 8)?.err()
 }
 
 #[test]
