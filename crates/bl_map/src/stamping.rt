@@ -2,7 +2,7 @@
 
 ghost use Rattle.std.specs.Prelude.{◌≡◌};
 ghost use Rattle.bl_index.specs.Calls.{IsPassOf};
-ghost use Rattle.bl_map.specs.Seats.{IsPassOf-prop};
+ghost use Rattle.bl_map_calls.specs.Seats.{IsPassOf-prop};
 ghost use Rattle.bl_map.specs.Handles.{IsSameHandle, HasKeptUp, KeepsHints};
 ghost use Rattle.bl_map.specs.Meetings.{KeepsHandle};
 ghost use Rattle.bl_map.specs.Stamps.{IsStampOver, IsOfOneMap, KeepsStamp, HasStamped, HasHeeded, StampsKeepOrder, stamped_seat};

@@ -14,4 +14,5 @@ mod seats;
 mod stamps;
 mod tables;
 mod trials;
+mod tries;
 mod updates;
