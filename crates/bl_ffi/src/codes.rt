@@ -1,4 +1,4 @@
-//! What a call answers. `blink.h` has one more, which its own functions answer.
+//! What a call answers.
 
 /// Done.
 pub(crate) const OK: i32 = 0;
@@ -8,7 +8,7 @@ pub(crate) const ABSENT: i32 = 1;
 pub(crate) const PRESENT: i32 = 2;
 /// There was no room, and nothing has changed.
 pub(crate) const NO_ROOM: i32 = 3;
-/// It is not answered yet, and is to be made again.
+/// It has not been done, and is to be made again.
 pub(crate) const AGAIN: i32 = 4;
 /// The number of pages is not 4 to 2^28.
 pub(crate) const BAD_PAGES: i32 = 5;
@@ -26,6 +26,8 @@ pub(crate) const FEW_ROWS: i32 = 10;
 pub(crate) const SEATS_OPEN: i32 = 11;
 /// There is room for fewer bytes than the image has.
 pub(crate) const FEW_BYTES: i32 = 12;
+/// The seats are of two maps.
+pub(crate) const OTHER_MAP: i32 = 13;
 /// A share of the map was taken while its seats gave theirs up.
 pub(crate) const SEATS_LOST: i32 = 14;
 /// The keys of the rows do not rise.
