@@ -94,10 +94,10 @@ abbrev pub StaysAsItWas : SeatOfC → SeatOfC → ℤ → Type 0
 StaysAsItWas old new code = MatchOption old.seat ((code ≡ pos 9) × (new.seat ≡ None)) (λ s. (code ≡ pos 0) × (new.seat ≡ Some s))
 
 abbrev pub waiting_of : Seat → ℕ
-waiting_of seat = length (hints_of seat.upkeep.waiting)
+waiting_of seat = length (hints_of seat.waiting)
 
 abbrev pub dropped_of : Seat → ℕ
-dropped_of seat = seat.upkeep.waiting.dropped
+dropped_of seat = seat.waiting.dropped
 
 -- What a look at all pages and frames of its map says. Of how many are free no clause says more.
 pub record IsRoomOf (s : Seat) (stats : Stats) : Type 0 where

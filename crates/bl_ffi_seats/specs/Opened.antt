@@ -17,7 +17,7 @@ use Rattle.bl_waiting.specs.Queue.{IsNone}
 
 -- The seat works at this index by that pass, and has nothing to keep up.
 abbrev pub IsNewSeat : Index → Pass → Seat → Type 0
-IsNewSeat index pass seat = (arc_value seat.index ≡ index) × (seat.pass ≡ pass) × IsNone seat.upkeep.waiting
+IsNewSeat index pass seat = (arc_value seat.index ≡ index) × (seat.pass ≡ pass) × IsNone seat.waiting
 
 -- a seat for each pass, in their order
 abbrev pub AreSeatsOf : Index → List Pass → List Seat → Type 0

@@ -1,5 +1,5 @@
 -- What a call of a seat promises: what the map's same call does, or that it is to be made again.
-use Rattle.std.specs.Prelude.{◌≡◌, ℕ, List, Option}
+use Rattle.std.specs.Prelude.{◌≡◌, ◌+◌, ℕ, List, Option, []}
 use Rattle.std.specs.Arc.{arc_value}
 use Rattle.bl_model.specs.declared.deciding.KeyWrite.{KeyWrite}
 use Rattle.bl_model.specs.declared.operation.Op.{Op}
@@ -11,6 +11,10 @@ use Rattle.bl_index_range.specs.Ranges.{ReadsRange, StopsRange}
 use Rattle.bl_index_range.specs.declared.ranging.RangeFault.{RangeFault}
 use Rattle.bl_index.specs.Calls.{first_of, pages_of, IsSamePass, number_of, trail, Sweeps}
 use Rattle.bl_index.specs.Meetings.{Meet}
+use Rattle.bl_model.specs.declared.operation.Reply.TheVariants as replies
+use Rattle.bl_model.specs.Writes.{write_op}
+use Rattle.bl_map_calls.specs.Works.{FoundNoRoom}
+use Rattle.bl_map_calls.specs.Tries.{TendsSome, WritesAtOnce, WritesNoKey}
 use Rattle.bl_ffi_seats.specs.declared.seat.Seat.{Seat}
 
 -- what the index began with
@@ -34,7 +38,7 @@ IsSameSeat old new = (new.index ≡ old.index) × IsSamePass old.pass new.pass
 
 -- The same pieces of upkeep wait.
 abbrev pub KeepsUpkeep : Seat → Seat → Type 0
-KeepsUpkeep old new = new.upkeep ≡ old.upkeep
+KeepsUpkeep old new = new.waiting ≡ old.waiting
 
 -- both are at one index
 abbrev pub AreOfOne : Seat → Seat → Type 0
@@ -58,9 +62,19 @@ abbrev pub HasStopped : ℕ → Option ℕ → ℕ → RangeFault → Seat → S
 HasStopped from to rounds fault old new =
     StopsRange (first_of_seat old) (pages_of_seat old) (seat_number old) (pages_of_seat old) rounds from to fault (seen_at old) (seen_at new)
 
--- It has swept once, and was answered how many pages and frames are released.
-abbrev pub HasReleased : ℕ → Seat → Seat → Type 0
-HasReleased answer old new = Sweeps (first_of_seat old) (seat_number old) answer (seen_at old) (seen_at new)
+-- A write was answered so. Before it upkeep was done, some pieces at most; what it has left to do waits. Where there was no room, what it
+-- wanted is what the pass was refused last.
+pub record HasWritten (key : ℕ) (write : KeyWrite) (reply : Reply) (old new : Seat) : Type 0 where
+  pub writes : WritesAtOnce (first_of_seat old) (seat_number old) (write_op key write) reply old.waiting new.waiting (seen_at old) (seen_at new)
+  pub no_room : reply ≡ replies.NoRoom → FoundNoRoom key write old.pass new.pass
+
+-- It has not been done, and nothing of it is left: upkeep was done, some pieces at most, and then it found no room, or gave up.
+abbrev pub HasNotWritten : Seat → Seat → Type 0
+HasNotWritten old new = WritesNoKey (first_of_seat old) (seat_number old) old.waiting new.waiting (seen_at old) (seen_at new)
+
+-- So many pieces of upkeep were tried at most, and 16 that it has found.
+abbrev pub HasKeptUp : ℕ → Seat → Seat → Type 0
+HasKeptUp most old new = TendsSome (first_of_seat old) (seat_number old) (most + 16) old.waiting new.waiting (seen_at old) (seen_at new)
 
 -- Two seats have met: both have seen one trail, which the index may have. It begins with what each of them had seen, and has no further
 -- entry of either.

@@ -12,7 +12,8 @@ ghost use Rattle.bl_ffi_seats.specs.Opened.{AreSeatsOf, AreSeatsOpened, AreReope
 use crate::seat::Seat;
 use bl_check::{Fault, Quiet, load};
 use bl_index::{Config, Index, OpenFault, Pass};
-use bl_map_calls::trying::Upkeep;
+use bl_map_calls::walking::Walk;
+use bl_waiting::Waiting;
 use std::alloc::{AllocError, Global};
 use std::sync::Arc;
 
@@ -143,6 +144,7 @@ fn seat_of(index: Arc<Index, Global>, pass: Pass) -> Seat
     Seat {
         index,
         pass,
-        upkeep: Upkeep::new(),
+        waiting: Waiting::new(),
+        walk: Walk::new(),
     }
 }

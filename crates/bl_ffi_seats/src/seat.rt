@@ -5,7 +5,9 @@ ghost use Rattle.bl_index.specs.Calls.{IsPassOf};
 ghost use Rattle.bl_map_calls.specs.Seats.{IsPassOf-prop};
 
 use bl_index::{Direction, Index, KeyReply, KeyWrite, Pass, Reply, RoomSeen};
-use bl_map_calls::trying::{self, Upkeep};
+use bl_map_calls::trying;
+use bl_map_calls::walking::Walk;
+use bl_waiting::Waiting;
 use std::alloc::Global;
 use std::ptr;
 use std::sync::Arc;
@@ -15,20 +17,19 @@ use std::sync::Arc;
 pub struct Seat {
     pub(crate) index: Arc<Index, Global>,
     pub(crate) pass: Pass,
-    pub(crate) upkeep: Upkeep,
+    pub(crate) waiting: Waiting,
+    pub(crate) walk: Walk,
     pub ghost own: { IsPassOf (arc_value index) pass } by { IsPassOf-prop (arc_value index) pass },
 }
 
 impl Seat {
-    ghost use Rattle.std.specs.Prelude.{◌≡◌, ◌+◌, ◌≤◌, ◌↔◌, MatchOption, IfSome, length, true};
+    ghost use Rattle.std.specs.Prelude.{◌≡◌, ◌+◌, ◌≤◌, MatchOption, [], length, true};
     ghost use Rattle.bl_model.specs.declared.operation.Op.TheVariants as op;
-    ghost use Rattle.bl_model.specs.declared.operation.KeyReply.TheVariants as replies;
     ghost use Rattle.bl_model.specs.Replies.{reply_of};
-    ghost use Rattle.bl_model.specs.Writes.{write_op};
     ghost use Rattle.bl_proc.specs.Parts.{op_toward};
     ghost use Rattle.bl_index.specs.Calls.{pages_of, frames_of};
     ghost use Rattle.bl_waiting.specs.Queue.{hints_of};
-    ghost use Rattle.bl_ffi_seats.specs.Seats.{IsSameSeat, KeepsUpkeep, AreOfOne, HasFound, HasRunOut, HasReleased, HaveMet};
+    ghost use Rattle.bl_ffi_seats.specs.Seats.{IsSameSeat, KeepsUpkeep, AreOfOne, HasFound, HasRunOut, HasWritten, HasNotWritten, HasKeptUp, HaveMet};
 
     /// The value of a key, or that the key is absent. None: it ran out of turns, and is to be made again.
     pub fn find(&mut self, key: u64) -> Option<KeyReply>
@@ -68,6 +69,40 @@ impl Seat {
         }
     }
 
+    /// Writes a key. Before that it does upkeep, some pieces at most, and looks for room; what it has left to do waits. None: it found no room
+    /// yet, or a page was another thread's. It has not been done, and nothing of it is left: it is to be made again, or not.
+    pub fn write(&mut self, key: u64, write: KeyWrite) -> Option<KeyReply>
+        ensures same { IsSameSeat self.old self.new }
+        ensures written { MatchOption result (HasNotWritten self.old self.new) (λ reply. HasWritten key write (reply_of reply) self.old self.new) }
+    {
+        trying::try_write(
+            &self.index,
+            &mut self.pass,
+            &mut self.waiting,
+            &mut self.walk,
+            key,
+            write,
+        )
+    }
+
+    /// Does so many pieces of upkeep at most, and gives back what was swapped out. Says whether nothing is left to do.
+    pub fn keep_up(&mut self, most: u32) -> bool
+        ensures same { IsSameSeat self.old self.new }
+        ensures kept { HasKeptUp most self.old self.new }
+        ensures done { result ≡ true → hints_of self.new.waiting ≡ [] }
+    {
+        let index = &self.index;
+        let done = trying::try_upkeep(
+            index,
+            &mut self.pass,
+            &mut self.waiting,
+            &mut self.walk,
+            most,
+        );
+        self.index.sweep(&mut self.pass);
+        done
+    }
+
     /// The seats meet: each then has seen all that has happened in the index, and so all that the other one had.
     pub fn meet(&mut self, other: &mut Seat)
         requires { AreOfOne self.old other.old }
@@ -105,15 +140,15 @@ impl Seat {
 
     /// How many pieces of upkeep wait, 32 at most.
     pub fn waiting(&self) -> u32
-        ensures { result ≡ length (hints_of self.now.upkeep.waiting) }
+        ensures { result ≡ length (hints_of self.now.waiting) }
     {
-        self.upkeep.waiting.len()
+        self.waiting.len()
     }
 
     /// How many were dropped, since 32 waited.
     pub fn dropped(&self) -> u64
-        ensures { result ≡ self.now.upkeep.waiting.dropped }
+        ensures { result ≡ self.now.waiting.dropped }
     {
-        self.upkeep.waiting.dropped
+        self.waiting.dropped
     }
 }
