@@ -10,7 +10,7 @@ use Rattle.bl_model.specs.declared.deciding.KeyWrite.{KeyWrite}
 use Rattle.bl_waiting.specs.Queue.{hints_of}
 use Rattle.bl_index.specs.Calls.{pages_of, frames_of}
 use Rattle.bl_ffi_seats.specs.declared.seat.Seat.{Seat}
-use Rattle.bl_ffi_seats.specs.Seats.{IsSameSeat, KeepsUpkeep, HasFound, HasRunOut, HasWritten, HasNotWritten, HasKeptUp, HasNothingToDo}
+use Rattle.bl_ffi_seats.specs.Seats.{IsSameSeat, KeepsUpkeep, HasFound, HasRunOut, HasWritten, HasNotWritten, HasKeptUp, IsDone}
 use Rattle.bl_ffi.specs.declared.calls.Row.{Row}
 use Rattle.bl_ffi.specs.declared.calls.Part.{Part}
 use Rattle.bl_ffi.specs.declared.seat.SeatOfC.{SeatOfC}
@@ -80,10 +80,10 @@ abbrev pub Lists : Op → List Row → List Row → Part → ℤ → Seat → Se
 Lists op rows rows' part code old new = KeepsUpkeep old new
     × (((code ≡ pos 4) × HasRunOut old new) ⊎ ((code ≡ pos 0) × ((reply : Reply) × HasFound op reply old new × IsListed reply rows rows' part)))
 
--- It has done so many pieces of upkeep at most, and the code says whether anything is left to do.
+-- It has done upkeep, and the code says whether anything is left to do.
 abbrev pub KeepsUp : ℕ → SeatOfC → SeatOfC → ℤ → Type 0
 KeepsUp most old new code = Calls old new code (λ s t. HasKeptUp most s t
-    × (((code ≡ pos 0) × HasNothingToDo t) ⊎ ((code ≡ pos 4) × (HasNothingToDo t → ⊥))))
+    × (((code ≡ pos 0) × IsDone t) ⊎ ((code ≡ pos 4) × (IsDone t → ⊥))))
 
 -- A seat is closed then. The code says whether it was before.
 abbrev pub Closes : SeatOfC → SeatOfC → ℤ → Type 0

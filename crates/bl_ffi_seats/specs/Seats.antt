@@ -1,5 +1,5 @@
 -- What a call of a seat promises: what the map's same call does, or that it is to be made again.
-use Rattle.std.specs.Prelude.{◌≡◌, ◌+◌, ℕ, List, Option, []}
+use Rattle.std.specs.Prelude.{◌≡◌, ℕ, List, Option}
 use Rattle.std.specs.Arc.{arc_value}
 use Rattle.bl_model.specs.declared.deciding.KeyWrite.{KeyWrite}
 use Rattle.bl_model.specs.declared.operation.Op.{Op}
@@ -9,12 +9,12 @@ use Rattle.bl_claims.specs.Trails.{Trail}
 use Rattle.bl_index_read.specs.Searching.{Finds, RunsOut}
 use Rattle.bl_index_range.specs.Ranges.{ReadsRange, StopsRange}
 use Rattle.bl_index_range.specs.declared.ranging.RangeFault.{RangeFault}
-use Rattle.bl_index.specs.Calls.{first_of, pages_of, IsSamePass, number_of, trail, Sweeps}
+use Rattle.bl_index.specs.Calls.{first_of, pages_of, IsSamePass, number_of, trail, StaysAlone, Sweeps, AllSwept}
 use Rattle.bl_index.specs.Meetings.{Meet}
 use Rattle.bl_model.specs.declared.operation.Reply.TheVariants as replies
 use Rattle.bl_model.specs.Writes.{write_op}
-use Rattle.bl_map_calls.specs.Works.{FoundNoRoom}
-use Rattle.bl_map_calls.specs.Tries.{TendsSome, WritesAtOnce, WritesNoKey}
+use Rattle.bl_map_calls.specs.Works.{Works, Adds, FoundNoRoom}
+use Rattle.bl_map_calls.specs.Tries.{WritesAtOnce, WritesNone, IsRefused, KeepsUp, HasNothingToDo}
 use Rattle.bl_ffi_seats.specs.declared.seat.Seat.{Seat}
 
 -- what the index began with
@@ -62,19 +62,29 @@ abbrev pub HasStopped : ℕ → Option ℕ → ℕ → RangeFault → Seat → S
 HasStopped from to rounds fault old new =
     StopsRange (first_of_seat old) (pages_of_seat old) (seat_number old) (pages_of_seat old) rounds from to fault (seen_at old) (seen_at new)
 
--- A write was answered so. Before it upkeep was done, some pieces at most; what it has left to do waits. Where there was no room, what it
--- wanted is what the pass was refused last.
+-- A write was answered so, as the same call of the map. Where there was no room, what it wanted is what the pass was refused last.
 pub record HasWritten (key : ℕ) (write : KeyWrite) (reply : Reply) (old new : Seat) : Type 0 where
+  pub works : Works (first_of_seat old) (seat_number old) (write_op key write) reply (seen_at old) (seen_at new)
   pub writes : WritesAtOnce (first_of_seat old) (seat_number old) (write_op key write) reply old.waiting new.waiting (seen_at old) (seen_at new)
   pub no_room : reply ≡ replies.NoRoom → FoundNoRoom key write old.pass new.pass
 
--- It has not been done, and nothing of it is left: upkeep was done, some pieces at most, and then it found no room, or gave up.
-abbrev pub HasNotWritten : Seat → Seat → Type 0
-HasNotWritten old new = WritesNoKey (first_of_seat old) (seat_number old) old.waiting new.waiting (seen_at old) (seen_at new)
+-- It has not been done, and nothing of it is left: the seat has added no entry, and a seat that is alone has the map as it was. It looked for
+-- room, and then it was refused, or gave up.
+pub record HasNotWritten (old new : Seat) : Type 0 where
+  pub adds : Adds (first_of_seat old) (seat_number old) (seen_at old) (seen_at new)
+  pub alone : StaysAlone (first_of_seat old) (arc_value old.index) (seen_at old) (seen_at new)
+  pub none : WritesNone (first_of_seat old) (seat_number old) (IsRefused old.walk new.walk) old.waiting new.waiting (seen_at old) (seen_at new)
 
--- So many pieces of upkeep were tried at most, and 16 that it has found.
-abbrev pub HasKeptUp : ℕ → Seat → Seat → Type 0
-HasKeptUp most old new = TendsSome (first_of_seat old) (seat_number old) (most + 16) old.waiting new.waiting (seen_at old) (seen_at new)
+-- Upkeep was done, so many pieces of it, and then the seat has given back what was swapped out.
+pub record HasKeptUp (most : ℕ) (old new : Seat) : Type 0 where
+  pub mid : Trail
+  pub keeps : KeepsUp (first_of_seat old) (seat_number old) most old.waiting new.waiting (seen_at old) mid
+  pub sweeps : (answer : ℕ) × Sweeps (first_of_seat old) (seat_number old) answer mid (seen_at new)
+  pub swept : AllSwept new.pass
+
+-- Nothing is left to do.
+abbrev pub IsDone : Seat → Type 0
+IsDone seat = HasNothingToDo seat.walk seat.waiting
 
 -- Two seats have met: both have seen one trail, which the index may have. It begins with what each of them had seen, and has no further
 -- entry of either.

@@ -23,13 +23,13 @@ pub struct Seat {
 }
 
 impl Seat {
-    ghost use Rattle.std.specs.Prelude.{◌≡◌, ◌+◌, ◌≤◌, MatchOption, [], length, true};
+    ghost use Rattle.std.specs.Prelude.{◌≡◌, ◌+◌, ◌≤◌, ◌↔◌, MatchOption, length, true};
     ghost use Rattle.bl_model.specs.declared.operation.Op.TheVariants as op;
     ghost use Rattle.bl_model.specs.Replies.{reply_of};
     ghost use Rattle.bl_proc.specs.Parts.{op_toward};
     ghost use Rattle.bl_index.specs.Calls.{pages_of, frames_of};
     ghost use Rattle.bl_waiting.specs.Queue.{hints_of};
-    ghost use Rattle.bl_ffi_seats.specs.Seats.{IsSameSeat, KeepsUpkeep, AreOfOne, HasFound, HasRunOut, HasWritten, HasNotWritten, HasKeptUp, HaveMet};
+    ghost use Rattle.bl_ffi_seats.specs.Seats.{IsSameSeat, KeepsUpkeep, AreOfOne, HasFound, HasRunOut, HasWritten, HasNotWritten, HasKeptUp, IsDone, HaveMet};
 
     /// The value of a key, or that the key is absent. None: it ran out of turns, and is to be made again.
     pub fn find(&mut self, key: u64) -> Option<KeyReply>
@@ -89,7 +89,7 @@ impl Seat {
     pub fn keep_up(&mut self, most: u32) -> bool
         ensures same { IsSameSeat self.old self.new }
         ensures kept { HasKeptUp most self.old self.new }
-        ensures done { result ≡ true → hints_of self.new.waiting ≡ [] }
+        ensures done { result ≡ true ↔ IsDone self.new }
     {
         let index = &self.index;
         let done = trying::try_upkeep(
