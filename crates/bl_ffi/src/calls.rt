@@ -280,7 +280,7 @@ pub extern "C" fn blink_try_upkeep(alloc: Global, seat: &mut SeatOfC, most: u32)
     let Some(mut mine) = taken(alloc, seat) else {
         return CLOSED;
     };
-    let done = mine.keep_up(most);
+    let done = mine.upkeep(most);
     put_back(alloc, seat, mine);
     if done { OK } else { AGAIN }
 }

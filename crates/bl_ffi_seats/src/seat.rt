@@ -86,7 +86,7 @@ impl Seat {
     }
 
     /// Does so many pieces of upkeep at most, and gives back what was swapped out. Says whether nothing is left to do.
-    pub fn keep_up(&mut self, most: u32) -> bool
+    pub fn upkeep(&mut self, most: u32) -> bool
         ensures same { IsSameSeat self.old self.new }
         ensures kept { HasKeptUp most self.old self.new }
         ensures done { result ≡ true ↔ IsDone self.new }

@@ -96,7 +96,7 @@ fn count_rows(seat: &mut Seat) -> u64 {
 fn parts_tell_all(seat: &mut Seat) -> bool {
     insert_many(seat, MANY) == MANY
         && count_rows(seat) == MANY
-        && seat.keep_up(64)
+        && seat.upkeep(64)
         && seat.waiting() == 0
         && seat.dropped() == 0
 }
@@ -109,11 +109,11 @@ fn parts_tell_all_rows(rt: HostRuntime) {
 
 /// Whether there is nothing to do in an empty index, nor when what many rows left was done.
 fn upkeep_ends(seat: &mut Seat) -> bool {
-    if !seat.keep_up(0) || insert_many(seat, MANY) != MANY {
+    if !seat.upkeep(0) || insert_many(seat, MANY) != MANY {
         return false;
     }
-    seat.keep_up(1_024);
-    seat.keep_up(0) && seat.waiting() == 0
+    seat.upkeep(1_024);
+    seat.upkeep(0) && seat.waiting() == 0
 }
 
 #[test]
@@ -134,7 +134,7 @@ fn gives_back(seat: &mut Seat) -> bool {
         return false;
     }
     let meanwhile = free_frames(seat);
-    seat.keep_up(0);
+    seat.upkeep(0);
     meanwhile < before && free_frames(seat) == before
 }
 
@@ -373,7 +373,7 @@ fn filled(seat: &mut Seat) -> u64 {
 
 /// Whether a window moves, leaves nothing to do, and room for the rows that surely fit.
 fn window_moves(seat: &mut Seat) -> bool {
-    moved_in_vain(seat) == 0 && seat.keep_up(4_096) && seat.waiting() == 0 && filled(seat) == 1_528
+    moved_in_vain(seat) == 0 && seat.upkeep(4_096) && seat.waiting() == 0 && filled(seat) == 1_528
 }
 
 #[test]
