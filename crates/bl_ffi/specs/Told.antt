@@ -35,13 +35,13 @@ abbrev pub Calls : SeatOfC → SeatOfC → ℤ → (Seat → Seat → Type 0) �
 Calls old new code Comes = MatchOption old.seat ((code ≡ pos 9) × (new.seat ≡ None)) (λ s. (t : Seat) × (new.seat ≡ Some t) × IsSameSeat s t × Comes s t)
 
 -- A search. It was answered so; or it ran out of turns, and is to be made again. It loses no upkeep.
-abbrev pub Finds : Op → SeatOfC → SeatOfC → ℤ → ℕ → Type 0
-Finds op old new code written = Calls old new code (λ s t. KeepsUpkeep s t
+abbrev pub TellsFound : Op → SeatOfC → SeatOfC → ℤ → ℕ → Type 0
+TellsFound op old new code written = Calls old new code (λ s t. KeepsUpkeep s t
     × (((code ≡ pos 4) × HasRunOut s t) ⊎ ((reply : Reply) × IsCodeOf reply code written × HasFound op reply s t)))
 
 -- A write. It was answered so; or it has not been done, and nothing of it is left.
-abbrev pub Writes : ℕ → KeyWrite → SeatOfC → SeatOfC → ℤ → ℕ → Type 0
-Writes key write old new code written = Calls old new code (λ s t.
+abbrev pub TellsWritten : ℕ → KeyWrite → SeatOfC → SeatOfC → ℤ → ℕ → Type 0
+TellsWritten key write old new code written = Calls old new code (λ s t.
     ((code ≡ pos 4) × HasNotWritten s t) ⊎ ((reply : Reply) × IsCodeOf reply code written × HasWritten key write reply s t))
 
 -- a key and its value, as C has them
@@ -69,20 +69,20 @@ taken_of pairs room = min (length pairs) (length room)
 
 -- As many rows of the reply as fit are the first ones of the array, and the others are as they were. The part says how many there are, and how they
 -- go on: at the first one that did not fit, or where the reply does.
-abbrev pub IsListed : Reply → List Row → List Row → Part → Type 0
-IsListed (Rows pairs next) old new part =
+abbrev pub IsFilled : Reply → List Row → List Row → Part → Type 0
+IsFilled (Rows pairs next) old new part =
     (new ≡ map row_of (take (taken_of pairs.items old) pairs.items) ++ drop (taken_of pairs.items old) old) × (part.count ≡ taken_of pairs.items old)
     × GoesOnAt (next_behind (drop (taken_of pairs.items old) pairs.items) next) part
-IsListed other old new part = ⊥
+IsFilled other old new part = ⊥
 
 -- The same of a part of the rows, which are listed.
 abbrev pub Lists : Op → List Row → List Row → Part → ℤ → Seat → Seat → Type 0
 Lists op rows rows' part code old new = KeepsUpkeep old new
-    × (((code ≡ pos 4) × HasRunOut old new) ⊎ ((code ≡ pos 0) × ((reply : Reply) × HasFound op reply old new × IsListed reply rows rows' part)))
+    × (((code ≡ pos 4) × HasRunOut old new) ⊎ ((code ≡ pos 0) × ((reply : Reply) × HasFound op reply old new × IsFilled reply rows rows' part)))
 
 -- It has done upkeep, and the code says whether anything is left to do.
-abbrev pub KeepsUp : ℕ → SeatOfC → SeatOfC → ℤ → Type 0
-KeepsUp most old new code = Calls old new code (λ s t. HasKeptUp most s t
+abbrev pub TellsUpkeep : ℕ → SeatOfC → SeatOfC → ℤ → Type 0
+TellsUpkeep most old new code = Calls old new code (λ s t. HasKeptUp most s t
     × (((code ≡ pos 0) × IsDone t) ⊎ ((code ≡ pos 4) × (IsDone t → ⊥))))
 
 -- A seat is closed then. The code says whether it was before.

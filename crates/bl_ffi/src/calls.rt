@@ -5,7 +5,7 @@ ghost use Rattle.bl_model.specs.declared.operation.Op.TheVariants as op;
 ghost use Rattle.bl_model.specs.Replies.{reply_of};
 ghost use Rattle.bl_model.specs.declared.deciding.KeyWrite.TheVariants as key_write;
 ghost use Rattle.bl_proc.specs.Parts.{op_toward};
-ghost use Rattle.bl_ffi.specs.Told.{IsCodeOf, Finds, Writes, Closes, Calls, IsRows, IsListed, Lists, next_behind, KeepsUp, StaysAsItWas};
+ghost use Rattle.bl_ffi.specs.Told.{IsCodeOf, TellsFound, TellsWritten, Closes, Calls, IsRows, IsFilled, Lists, next_behind, TellsUpkeep, StaysAsItWas};
 
 use crate::codes::{ABSENT, AGAIN, CLOSED, FEW_ROWS, NO_ROOM, OK, PRESENT};
 use crate::places::{put_back, taken};
@@ -59,7 +59,7 @@ pub extern "C" fn blink_try_find(
     key: u64,
     value: &mut u64,
 ) -> i32
-    ensures { Finds (op.Find key) seat.old seat.new result value.new }
+    ensures { TellsFound (op.Find key) seat.old seat.new result value.new }
 {
     let Some(mut mine) = taken(alloc, seat) else {
         return CLOSED;
@@ -85,9 +85,9 @@ pub extern "C" fn blink_fetch(alloc: Global, seat: &mut SeatOfC, keys: &[u64]) -
     OK
 }
 
-/// Writes a key, and puts the value beside the reply.
+/// TellsWritten a key, and puts the value beside the reply.
 fn write(alloc: Global, seat: &mut SeatOfC, key: u64, write: KeyWrite, value: &mut u64) -> i32
-    ensures { Writes key write seat.old seat.new result value.new }
+    ensures { TellsWritten key write seat.old seat.new result value.new }
 {
     let Some(mut mine) = taken(alloc, seat) else {
         return CLOSED;
@@ -109,7 +109,7 @@ pub extern "C" fn blink_try_insert(
     value: u64,
     there: &mut u64,
 ) -> i32
-    ensures { Writes key (key_write.Insert value) seat.old seat.new result there.new }
+    ensures { TellsWritten key (key_write.Insert value) seat.old seat.new result there.new }
 {
     write(alloc, seat, key, KeyWrite::Insert(value), there)
 }
@@ -123,7 +123,7 @@ pub extern "C" fn blink_try_put(
     value: u64,
     old: &mut u64,
 ) -> i32
-    ensures { Writes key (key_write.Put value) seat.old seat.new result old.new }
+    ensures { TellsWritten key (key_write.Put value) seat.old seat.new result old.new }
 {
     write(alloc, seat, key, KeyWrite::Put(value), old)
 }
@@ -136,7 +136,7 @@ pub extern "C" fn blink_try_delete(
     key: u64,
     gone: &mut u64,
 ) -> i32
-    ensures { Writes key key_write.Delete seat.old seat.new result gone.new }
+    ensures { TellsWritten key key_write.Delete seat.old seat.new result gone.new }
 {
     write(alloc, seat, key, KeyWrite::Delete, gone)
 }
@@ -151,7 +151,7 @@ pub extern "C" fn blink_try_change(
     new: u64,
     there: &mut u64,
 ) -> i32
-    ensures { Writes key (key_write.Change old new) seat.old seat.new result there.new }
+    ensures { TellsWritten key (key_write.Change old new) seat.old seat.new result there.new }
 {
     write(alloc, seat, key, KeyWrite::Change(old, new), there)
 }
@@ -180,11 +180,11 @@ fn next_behind(pairs: &[(u64, u64)], taken: usize, next: Next) -> Next
     }
 }
 
-/// Writes the rows of a reply into the caller's array, as many as it has room for. Where it has room for all, the way to the next part is
+/// TellsWritten the rows of a reply into the caller's array, as many as it has room for. Where it has room for all, the way to the next part is
 /// short from that page.
 fn listed(reply: &Reply, near: u32, rows: &mut [Row], part: &mut Part)
     requires { IsRows reply.now }
-    ensures { IsListed reply.now rows.old rows.new part.new }
+    ensures { IsFilled reply.now rows.old rows.new part.new }
 {
     let Reply::Rows(pairs, next) = reply else {
         unreachable!()
@@ -275,7 +275,7 @@ pub extern "C" fn blink_try_rows_down(
 /// Does so many pieces of upkeep at most.
 #[unsafe(no_mangle)]
 pub extern "C" fn blink_try_upkeep(alloc: Global, seat: &mut SeatOfC, most: u32) -> i32
-    ensures { KeepsUp most seat.old seat.new result }
+    ensures { TellsUpkeep most seat.old seat.new result }
 {
     let Some(mut mine) = taken(alloc, seat) else {
         return CLOSED;
