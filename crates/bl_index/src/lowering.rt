@@ -34,10 +34,7 @@ fn lowered(answer: Option<Answer>) -> Lowered
 fn is_at_top(process: &Lower) -> bool
     ensures { result ≡ is_at_top process.now.stage }
 {
-    matches!(
-        process.stage,
-        LowerStage::Sinking(Lowering::LatchingTop(_))
-    )
+    matches!(process.stage, LowerStage::Sinking(Lowering::LatchingTop(_)))
 }
 
 /// A lowering that may not wait, from its begin to its end, or until it turns back: then it ends, and has done nothing.

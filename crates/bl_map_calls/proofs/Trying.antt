@@ -1,7 +1,6 @@
 -- What calls add that wait for nothing, and how pieces of upkeep are tried one after another.
-use Rattle.std.proofs.Common.{ℕ, suc, ◌≡◌, ◌≢◌, ◌<◌, Option, Some, None, List, [], refl, sym, ap, ◌∙◌, subst, inl, inr, arith}
-use Rattle.std.specs.Prelude.{IfSome, IfNone, MatchBool, Bool, true, false, ◌⊎◌}
-use Rattle.bl_model.specs.declared.deciding.KeyWrite.{KeyWrite}
+use Rattle.std.proofs.Common.{ℕ, suc, true, false, ◌≡◌, ◌≢◌, ◌<◌, Option, Some, None, List, [], refl, sym, ap, ◌∙◌, subst, inl, inr, arith}
+use Rattle.std.specs.Prelude.{◌⊎◌}
 use Rattle.bl_model.specs.declared.operation.Op.{Op}
 use Rattle.bl_model.specs.declared.operation.Reply.{Reply}
 use Rattle.bl_page.specs.declared.page.Page.{Page}
@@ -13,17 +12,15 @@ use Rattle.bl_answers.specs.declared.answers.Posted.{Posted}
 use Rattle.bl_answers.specs.declared.answers.Posted.TheVariants as posting
 use Rattle.bl_answers.specs.declared.answers.Squeezed.{Squeezed}
 use Rattle.bl_answers.specs.declared.answers.Squeezed.TheVariants as squeezed
-use Rattle.bl_answers.specs.declared.answers.Lowered.{Lowered}
-use Rattle.bl_answers.specs.declared.answers.Lowered.TheVariants as lowered
 use Rattle.bl_waiting.specs.declared.waiting.Waiting.{Waiting}
 use Rattle.bl_waiting.specs.Queue.{hints_of, IsKept, IsTaken}
 use Rattle.bl_index_events.specs.Answered.{WritesNothing}
-use Rattle.bl_index.specs.Calls.{Posts, Compresses, LowersTree, GivesUp, Writes}
+use Rattle.bl_index.specs.Calls.{Posts, Compresses, GivesUp, Writes}
 use Rattle.bl_map_calls.specs.declared.upkeep.Followed.{Followed}
 use Rattle.bl_map_calls.specs.declared.upkeep.Followed.TheVariants as followed
 use Rattle.bl_map_calls.specs.Works.{Works, Adds, Swept}
-use Rattle.bl_map_calls.specs.Follows.{may_fall, Lowers, FollowsHint}
-use Rattle.bl_map_calls.specs.Tries.{LeftBy, StopsLowering, left_behind, TriesHint, WasFollowed, WasGivenUp, HasNotLowered, left_of, TriesNext, NothingWaits, OldestTried}
+use Rattle.bl_map_calls.specs.Follows.{may_fall, Lowers}
+use Rattle.bl_map_calls.specs.Tries.{StopsLowering, left_behind, TriesHint, WasFollowed, WasGivenUp, HasNotLowered, is_done, left_of, TriesNext, NothingWaits, OldestTried}
 use Rattle.bl_map_calls.specs.Tries.{TriesPieces, AsManyDone, NoneWaits, OneDone, OneNotDone, Mends, NoneFound, OneFound, LooksForRoom, WritesAtOnce, WritesNone, KeepsUp}
 use Rattle.bl_map_calls.proofs.Adding.{nothing, then_adds, call_adds, call_works, adds_works, swept_adds, swept_as}
 use Rattle.bl_map_calls.proofs.Following.{hint_adds, lowers_add, stays_adds, posted, post_refused, compressed, compression_refused}
@@ -49,8 +46,8 @@ next_adds first pass result before after old new (OldestTried {hint = h} taken t
 pub pieces_add : (first : List (Option Page)) (pass most : ℕ) (before after : Waiting) (old new : Trail) → TriesPieces first pass most before after old new → Adds first pass old new
 pieces_add first pass most before after old new AsManyDone = nothing first pass old
 pieces_add first pass most before after old new (NoneWaits none) = nothing first pass old
-pieces_add first pass most before after old new (OneDone {most = fewer} {next = next} {waiting = waiting} {mid = mid} one on) =
-    then_adds first pass old mid new (next_adds first pass (Some (followed.Done next)) before waiting old mid one) (pieces_add first pass fewer waiting after mid new on)
+pieces_add first pass most before after old new (OneDone {most = fewer} {result = result} {waiting = waiting} {mid = mid} done one on) =
+    then_adds first pass old mid new (next_adds first pass result before waiting old mid one) (pieces_add first pass fewer waiting after mid new on)
 pieces_add first pass most before after old new (OneNotDone {result = result} other one) = next_adds first pass result before after old new one
 
 pub mends_add : (first : List (Option Page)) (pass most : ℕ) (before after : Waiting) (old new : Trail) → Mends first pass most before after old new → Adds first pass old new
@@ -116,10 +113,6 @@ stops_there first pass it that taken most old mid last new few same same' l s g 
   gives_up = gives_as WritesNothing first pass that last new same' g;
 }
 
--- where none may fall, none was given up
-none_stops : (first : List (Option Page)) (pass most : ℕ) (old new : Trail) → most ≡ 0 → StopsLowering first pass most old new → ⊥
-none_stops first pass most old new is s = let few = s.few in absurd (omega (arith, is, few))
-
 -- ---- a piece
 
 module _ (first : List (Option Page)) (pass it : ℕ) (h : Hint) (level key : ℕ) (old mid new : Trail) (same : it ≡ pass) (s : Swept first pass old mid) where
@@ -163,14 +156,13 @@ module _ (first : List (Option Page)) (pass it that : ℕ) (h : Hint) (level key
 pub so_many_tried : (first : List (Option Page)) (pass n m : ℕ) (before after : Waiting) (old new : Trail) → n ≡ m → TriesPieces first pass n before after old new → TriesPieces first pass m before after old new
 so_many_tried first pass n m before after old new is t = subst (λ (z : ℕ). TriesPieces first pass z before after old new) is t
 
-pub done_one : (first : List (Option Page)) (pass it m : ℕ) (result : Option Followed) (next : Option Hint) (before waiting after : Waiting) (old mid new : Trail) → it ≡ pass → result ≡ Some (followed.Done next)
+pub done_one : (first : List (Option Page)) (pass it m : ℕ) (result : Option Followed) (before waiting after : Waiting) (old mid new : Trail) → it ≡ pass → is_done result ≡ true
     → TriesNext first it result before waiting old mid → TriesPieces first pass m waiting after mid new → TriesPieces first pass (suc m) before after old new
-done_one first pass it m result next before waiting after old mid new same is t on =
-    OneDone (subst (λ (z : Option Followed). TriesNext first pass z before waiting old mid) is (next_as first pass it result before waiting old mid same t)) on
+done_one first pass it m result before waiting after old mid new same done t on = OneDone done (next_as first pass it result before waiting old mid same t) on
 
-pub not_done : (first : List (Option Page)) (pass it m : ℕ) (result : Option Followed) (before after : Waiting) (old new : Trail) → it ≡ pass → ((next : Option Hint) → result ≢ Some (followed.Done next))
+pub not_done : (first : List (Option Page)) (pass it m : ℕ) (result : Option Followed) (before after : Waiting) (old new : Trail) → it ≡ pass → is_done result ≡ false
     → TriesNext first it result before after old new → TriesPieces first pass (suc m) before after old new
-not_done first pass it m result before after old new same other t = OneNotDone other (next_as first pass it result before after old new same t)
+not_done first pass it m result before after old new same not t = OneNotDone not (next_as first pass it result before after old new same t)
 
 pub none_waits : (first : List (Option Page)) (pass n : ℕ) (waiting : Waiting) (old : Trail) → hints_of waiting ≡ [] → TriesPieces first pass n waiting waiting old old
 none_waits first pass n waiting old none = NoneWaits none
@@ -192,3 +184,47 @@ pub nothing_tried : (first : List (Option Page)) (pass : ℕ) (taken : Option Hi
 nothing_tried first pass taken before others old is t =
     let none : IsTaken None before others = subst (λ (z : Option Hint). IsTaken z before others) is t in
     subst (λ (z : Waiting). TriesNext first pass (Some (followed.Done None)) before z old old) (sym none.1) (NothingWaits none.0)
+
+-- ---- a write
+
+pub looks_for : (first : List (Option Page)) (pass it that other : ℕ) (before waiting after : Waiting) (old swept tried looked new : Trail) → it ≡ pass → that ≡ pass → other ≡ pass → Swept first pass old swept
+    → TriesPieces first it 16 before waiting swept tried → Swept first that tried looked → Mends first other 16 waiting after looked new → LooksForRoom first pass before after old new
+looks_for first pass it that other before waiting after old swept tried looked new same same' same'' s t l m = record {
+  swept = swept;
+  tried = tried;
+  looked = looked;
+  waiting = waiting;
+  sweeps = s;
+  tries = pieces_as first pass it 16 before waiting swept tried same t;
+  looks = swept_as first pass that tried looked same' l;
+  mends = mends_as first pass other 16 waiting after looked new same'' m;
+}
+
+pub wrote_at_once : (first : List (Option Page)) (pass it : ℕ) (op : Op) (reply : Reply) (hint : Option Hint) (before waiting after : Waiting) (old mid new : Trail) → it ≡ pass → LooksForRoom first pass before waiting old mid
+    → Writes first it op reply hint mid new → IsKept hint waiting after → WritesAtOnce first pass op reply before after old new
+wrote_at_once first pass it op reply hint before waiting after old mid new same l w kept = record {
+  hint = hint;
+  waiting = waiting;
+  mid = mid;
+  looks = l;
+  writes = subst (λ (z : ℕ). Writes first z op reply hint mid new) same w;
+  kept = kept;
+}
+
+pub wrote_none_given_up : (first : List (Option Page)) (pass : ℕ) (refused : Type 0) (it : ℕ) (before after : Waiting) (old mid new : Trail) → it ≡ pass → LooksForRoom first pass before after old mid → GivesUp WritesNothing first it mid new
+    → WritesNone first pass refused before after old new
+wrote_none_given_up first pass refused it before after old mid new same l g = record { mid = mid; looks = l; undone = inr (gives_as WritesNothing first pass it mid new same g) }
+
+-- ---- upkeep
+
+pub keeps_on : (first : List (Option Page)) (pass it most : ℕ) (before waiting after : Waiting) (old mid new : Trail) → it ≡ pass → TriesPieces first pass most before waiting old mid
+    → ((hints_of waiting ≡ []) × Mends first it 16 waiting after mid new) ⊎ ((after ≡ waiting) × (new ≡ mid)) → KeepsUp first pass most before after old new
+keeps_on first pass it most before waiting after old mid new same t m = record {
+  waiting = waiting;
+  mid = mid;
+  tries = t;
+  mends = elim m [
+    | inl found ↦ inl (found.0, mends_as first pass it 16 waiting after mid new same found.1)
+    | inr still ↦ inr still
+  ];
+}

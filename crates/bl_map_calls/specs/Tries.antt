@@ -1,5 +1,5 @@
 -- What calls promise that wait for nothing: each is done, or is given up, and then nothing of it is left.
-use Rattle.std.specs.Prelude.{◌≡◌, ◌≢◌, ◌⊎◌, ◌<◌, ◌≤◌, ℕ, suc, Option, None, Some, List, []}
+use Rattle.std.specs.Prelude.{◌≡◌, ◌≢◌, ◌⊎◌, ◌<◌, ◌≤◌, ℕ, suc, Bool, true, false, Option, None, Some, List, []}
 use Rattle.bl_model.specs.declared.operation.Op.{Op}
 use Rattle.bl_model.specs.declared.operation.Reply.{Reply}
 use Rattle.bl_page.specs.declared.page.Page.{Page}
@@ -61,14 +61,19 @@ pub data TriesNext (first : List (Option Page)) (pass : ℕ) : Option Followed �
   OldestTried : {hint : Hint} {result : Option Followed} {before others after : Waiting} {old new : Trail} → IsTaken (Some hint) before others
       → TriesHint first pass hint result old new → IsKept (left_of (Some hint) result) others after → TriesNext first pass result before after old new
 
+-- whether a piece that was tried is done
+abbrev pub is_done : Option Followed → Bool
+is_done (Some (followed.Done next)) = true
+is_done (Some followed.NoRoom) = false
+is_done None = false
+
 -- Pieces that wait were tried, the oldest first: so many, or until none waited, or until one was not done.
 pub data TriesPieces (first : List (Option Page)) (pass : ℕ) : ℕ → Waiting → Waiting → Trail → Trail → Type 0 where
   AsManyDone : {waiting : Waiting} {old : Trail} → TriesPieces first pass 0 waiting waiting old old
   NoneWaits : {most : ℕ} {waiting : Waiting} {old : Trail} → hints_of waiting ≡ [] → TriesPieces first pass most waiting waiting old old
-  OneDone : {most : ℕ} {next : Option Hint} {before waiting after : Waiting} {old mid new : Trail}
-      → TriesNext first pass (Some (followed.Done next)) before waiting old mid → TriesPieces first pass most waiting after mid new
-      → TriesPieces first pass (suc most) before after old new
-  OneNotDone : {most : ℕ} {result : Option Followed} {before after : Waiting} {old new : Trail} → ((next : Option Hint) → result ≢ Some (followed.Done next))
+  OneDone : {most : ℕ} {result : Option Followed} {before waiting after : Waiting} {old mid new : Trail} → is_done result ≡ true
+      → TriesNext first pass result before waiting old mid → TriesPieces first pass most waiting after mid new → TriesPieces first pass (suc most) before after old new
+  OneNotDone : {most : ℕ} {result : Option Followed} {before after : Waiting} {old new : Trail} → is_done result ≡ false
       → TriesNext first pass result before after old new → TriesPieces first pass (suc most) before after old new
 
 -- Pieces that were found were tried, so many at most. What following one has left waits.

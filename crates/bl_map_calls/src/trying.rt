@@ -1,16 +1,17 @@
 //! Calls that wait for nothing, for who may not wait: each is done, or is given up where it holds no page, and then nothing of it is left.
 
-ghost use Rattle.std.specs.Prelude.{◌≡◌, ◌↔◌, ◌<◌, ◌≤◌, true, false, None, IfSome, IfNone, MatchBool};
+ghost use Rattle.std.specs.Prelude.{◌≡◌, ◌↔◌, ◌⊎◌, ◌≤◌, [], true, false, None, IfSome, IfNone};
 ghost use Rattle.bl_answers.specs.Hints.{level_of, key_of};
 ghost use Rattle.bl_answers.specs.declared.answers.Hint.TheVariants as hints;
 ghost use Rattle.bl_model.specs.declared.operation.KeyReply.TheVariants as replies;
 ghost use Rattle.bl_model.specs.Replies.{reply_of};
 ghost use Rattle.bl_model.specs.Writes.{write_op};
+ghost use Rattle.bl_waiting.specs.Queue.{hints_of};
 ghost use Rattle.bl_index.specs.Calls.{first_of, IsPassOf, IsSamePass, number_of, trail, StaysAlone};
 ghost use Rattle.bl_map_calls.specs.Works.{Works, Adds, Swept, FoundNoRoom};
 ghost use Rattle.bl_map_calls.specs.Follows.{Lowers};
 ghost use Rattle.bl_map_calls.specs.Tries.{StopsLowering, TriesHint, TriesNext, TriesPieces, Mends, LooksForRoom, IsRefused, WritesAtOnce, WritesNone};
-ghost use Rattle.bl_map_calls.specs.Tries.{HasNothingToDo, KeepsUp, left_behind, left_of};
+ghost use Rattle.bl_map_calls.specs.Tries.{HasNothingToDo, KeepsUp, is_done, left_behind, left_of};
 
 use crate::calls::note_change;
 use crate::room::{Extent, wants_walk};
@@ -44,8 +45,8 @@ fn release(index: &Index, pass: &mut Pass, want: Want) -> bool
 fn try_lowering(index: &Index, pass: &mut Pass, most: u32) -> bool
     requires { IsPassOf index.now pass.old }
     ensures same { IsSamePass pass.old pass.new }
-    ensures lowers { MatchBool result (Lowers (first_of index.now) (number_of pass.old) most (trail pass.old) (trail pass.new))
-        (StopsLowering (first_of index.now) (number_of pass.old) most (trail pass.old) (trail pass.new)) }
+    ensures lowers { result ≡ true → Lowers (first_of index.now) (number_of pass.old) most (trail pass.old) (trail pass.new) }
+    ensures stops { result ≡ false → StopsLowering (first_of index.now) (number_of pass.old) most (trail pass.old) (trail pass.new) }
 {
     for _level in 0..most {
         release(index, pass, Want::Frames);
@@ -135,6 +136,7 @@ fn left_of(otherwise: Option<Hint>, tried: Option<Followed>) -> Option<Hint>
 pub fn try_follow(index: &Index, pass: &mut Pass, waiting: &mut Waiting) -> Option<Followed>
     requires { IsPassOf index.now pass.old }
     ensures same { IsSamePass pass.old pass.new }
+    ensures adds { Adds (first_of index.now) (number_of pass.old) (trail pass.old) (trail pass.new) }
     ensures tries { TriesNext (first_of index.now) (number_of pass.old) result waiting.old waiting.new (trail pass.old) (trail pass.new) }
 {
     let Some(hint) = waiting.take() else {
@@ -143,6 +145,17 @@ pub fn try_follow(index: &Index, pass: &mut Pass, waiting: &mut Waiting) -> Opti
     let tried = try_hint(index, pass, hint);
     waiting.keep(left_of(Some(hint), tried));
     tried
+}
+
+/// Whether a piece that was tried is done.
+fn is_done(tried: Option<Followed>) -> bool
+    ensures { result ≡ is_done tried }
+{
+    match tried {
+        Some(Followed::Done(_)) => true,
+        Some(Followed::NoRoom) => false,
+        None => false,
+    }
 }
 
 /// Tries pieces that wait, the oldest first, so many at most, until none waits or one is not done.
@@ -155,14 +168,13 @@ fn try_pieces(index: &Index, pass: &mut Pass, waiting: &mut Waiting, most: u32)
         if waiting.is_empty() {
             return;
         }
-        match try_follow(index, pass, waiting) {
-            Some(Followed::Done(_)) => {}
-            _ => return,
+        if !is_done(try_follow(index, pass, waiting)) {
+            return;
         }
     }
 }
 
-/// Tries the hint of a thin page that was found on a walk. Says what it has left, which is kept.
+/// Tries the hint of a thin page that was found on a walk, and notes where it was given up.
 fn mend(index: &Index, pass: &mut Pass, walk: &mut Walk, hint: Hint) -> Option<Followed>
     requires { IsPassOf index.now pass.old }
     ensures same { IsSamePass pass.old pass.new }
@@ -200,13 +212,7 @@ fn mend_some(
 }
 
 /// Goes on with the walk by some pages, or begins one, and tries what it finds.
-fn look_on(
-    index: &Index,
-    pass: &mut Pass,
-    waiting: &mut Waiting,
-    walk: &mut Walk,
-    extent: Extent,
-)
+fn look_on(index: &Index, pass: &mut Pass, waiting: &mut Waiting, walk: &mut Walk, extent: Extent)
     requires { IsPassOf index.now pass.old }
     ensures same { IsSamePass pass.old pass.new }
     ensures mends { Mends (first_of index.now) (number_of pass.old) 16 waiting.old waiting.new (trail pass.old) (trail pass.new) }
@@ -217,19 +223,33 @@ fn look_on(
     walk.come_to_end(index, pass);
 }
 
-/// Looks at some pages for such as are thin, where pages are scarce and it is not known that there is none. Says whether a write that may split
-/// a leaf may begin.
+/// Looks at some pages for such as are thin, where pages are scarce and it is not known that there is none.
+fn look_where_scarce(index: &Index, pass: &mut Pass, waiting: &mut Waiting, walk: &mut Walk)
+    requires { IsPassOf index.now pass.old }
+    ensures same { IsSamePass pass.old pass.new }
+    ensures mends { Mends (first_of index.now) (number_of pass.old) 16 waiting.old waiting.new (trail pass.old) (trail pass.new) }
+    ensures refused { walk.old.refused ≤ walk.new.refused }
+{
+    let room = &index.tree().store.room;
+    if room.has_none() || !room.lacks_pages() {
+        return;
+    }
+    look_on(index, pass, waiting, walk, Extent::Enough);
+}
+
+/// The same before a write that may split a leaf. Says whether it may begin.
 fn finds_pages(index: &Index, pass: &mut Pass, waiting: &mut Waiting, walk: &mut Walk) -> bool
     requires { IsPassOf index.now pass.old }
     ensures same { IsSamePass pass.old pass.new }
     ensures mends { Mends (first_of index.now) (number_of pass.old) 16 waiting.old waiting.new (trail pass.old) (trail pass.new) }
     ensures refused { result ≡ false → IsRefused walk.old walk.new }
 {
-    let room = &index.tree().store.room;
-    if room.lacks_pages() && !room.has_none() {
-        look_on(index, pass, waiting, walk, Extent::Enough);
+    look_where_scarce(index, pass, waiting, walk);
+    if !wants_walk(index) {
+        walk.note_room();
+        return true;
     }
-    !wants_walk(index) || walk.is_out_of_patience()
+    walk.is_out_of_patience()
 }
 
 /// Sweeps for frames, and for pages where the write may split a leaf while these are scarce. Says whether it lacks neither.
@@ -259,6 +279,7 @@ pub fn try_room(
 ) -> bool
     requires { IsPassOf index.now pass.old }
     ensures same { IsSamePass pass.old pass.new }
+    ensures adds { Adds (first_of index.now) (number_of pass.old) (trail pass.old) (trail pass.new) }
     ensures looks { LooksForRoom (first_of index.now) (number_of pass.old) waiting.old waiting.new (trail pass.old) (trail pass.new) }
     ensures refused { result ≡ false → IsRefused walk.old walk.new }
 {
@@ -268,8 +289,8 @@ pub fn try_room(
     if !release_both(index, pass, splits) {
         return walk.is_out_of_patience();
     }
-    if splits && !finds_pages(index, pass, waiting, walk) {
-        return false;
+    if splits {
+        return finds_pages(index, pass, waiting, walk);
     }
     walk.note_room();
     true
@@ -308,6 +329,19 @@ pub fn try_write(
     Some(reply)
 }
 
+/// Looks at some pages for such as are thin, where nothing waits and some pieces were dropped.
+fn look_where_dropped(index: &Index, pass: &mut Pass, waiting: &mut Waiting, walk: &mut Walk)
+    requires { IsPassOf index.now pass.old }
+    ensures same { IsSamePass pass.old pass.new }
+    ensures mends { ((hints_of waiting.old ≡ []) × Mends (first_of index.now) (number_of pass.old) 16 waiting.old waiting.new (trail pass.old) (trail pass.new))
+        ⊎ ((waiting.new ≡ waiting.old) × (trail pass.new ≡ trail pass.old)) }
+{
+    if !waiting.is_empty() || !walk.is_due(waiting) {
+        return;
+    }
+    look_on(index, pass, waiting, walk, Extent::Whole);
+}
+
 /// Does upkeep: tries pieces that wait, so many at most; and where none waits any more and some were dropped, looks at some pages for such
 /// as are thin. Says whether nothing is left to do.
 pub fn try_upkeep(
@@ -319,12 +353,11 @@ pub fn try_upkeep(
 ) -> bool
     requires { IsPassOf index.now pass.old }
     ensures same { IsSamePass pass.old pass.new }
+    ensures adds { Adds (first_of index.now) (number_of pass.old) (trail pass.old) (trail pass.new) }
     ensures keeps { KeepsUp (first_of index.now) (number_of pass.old) most waiting.old waiting.new (trail pass.old) (trail pass.new) }
     ensures done { result ≡ true ↔ HasNothingToDo walk.new waiting.new }
 {
     try_pieces(index, pass, waiting, most);
-    if waiting.is_empty() && walk.is_due(waiting) {
-        look_on(index, pass, waiting, walk, Extent::Whole);
-    }
+    look_where_dropped(index, pass, waiting, walk);
     waiting.is_empty() && !walk.is_due(waiting)
 }
