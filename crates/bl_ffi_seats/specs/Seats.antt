@@ -9,11 +9,11 @@ use Rattle.bl_claims.specs.Trails.{Trail}
 use Rattle.bl_index_read.specs.Searching.{Finds, RunsOut}
 use Rattle.bl_index_range.specs.Ranges.{ReadsRange, StopsRange}
 use Rattle.bl_index_range.specs.declared.ranging.RangeFault.{RangeFault}
-use Rattle.bl_index.specs.Calls.{first_of, pages_of, IsSamePass, number_of, trail, StaysAlone, Sweeps, AllSwept}
+use Rattle.bl_index.specs.Calls.{first_of, pages_of, IsSamePass, number_of, trail, StaysAlone, AllSwept}
 use Rattle.bl_index.specs.Meetings.{Meet}
 use Rattle.bl_model.specs.declared.operation.Reply.TheVariants as replies
 use Rattle.bl_model.specs.Writes.{write_op}
-use Rattle.bl_map_calls.specs.Works.{Works, Adds, FoundNoRoom}
+use Rattle.bl_map_calls.specs.Works.{Works, Adds, Swept, FoundNoRoom}
 use Rattle.bl_map_calls.specs.Tries.{WritesAtOnce, WritesNone, IsRefused, KeepsUp, HasNothingToDo}
 use Rattle.bl_ffi_seats.specs.declared.seat.Seat.{Seat}
 
@@ -79,7 +79,7 @@ pub record HasNotWritten (old new : Seat) : Type 0 where
 pub record HasKeptUp (most : ℕ) (old new : Seat) : Type 0 where
   pub mid : Trail
   pub keeps : KeepsUp (first_of_seat old) (seat_number old) most old.waiting new.waiting (seen_at old) mid
-  pub sweeps : (answer : ℕ) × Sweeps (first_of_seat old) (seat_number old) answer mid (seen_at new)
+  pub sweeps : Swept (first_of_seat old) (seat_number old) mid (seen_at new)
   pub swept : AllSwept new.pass
 
 -- Nothing is left to do.
