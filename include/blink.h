@@ -548,9 +548,11 @@ int32_t blink_try_upkeep(blink_seat *seat, uint32_t most);
  *   BLINK_OK, BLINK_CLOSED  as there */
 int32_t blink_try_meet(blink_seat *one, blink_seat *two);
 
-/* Whether two seats are of one map, as blink_same_map. They are two seats.
- *   BLINK_OK, BLINK_OTHER_MAP, BLINK_CLOSED  as there */
-int32_t blink_try_same_map(blink_seat *one, blink_seat *two);
+/* A place in the memory of the seat's map, whose address blink_same_map compares: it is
+ * not to be read. Maps that are open have places of their own.
+ *   BLINK_OK          `*place` is that place
+ *   BLINK_CLOSED      the seat is closed; `*place` is as it was */
+int32_t blink_place(blink_seat *seat, const uint32_t **place);
 
 /* Closes a map, as blink_close_image. All seats are of one map.
  *   BLINK_OK, BLINK_CLOSED, BLINK_SEATS_OPEN, BLINK_FEW_BYTES  as there
@@ -850,23 +852,22 @@ BLINK_INLINE int32_t blink_upkeep_all(blink_seat *seat) {
     return answer;
 }
 
-/* A call of two seats, or of one that is handed in twice: that it is open. */
+/* A call of two seats of one map, if there is one; of one that is handed in twice only
+ * whether it is open. */
 static inline int32_t blink_together_(blink_seat *one, blink_seat *two, const char *call,
                                       int32_t (*calls)(blink_seat *, blink_seat *)) {
     blink_seat rooms[2] = { BLINK_SEAT_INIT, BLINK_SEAT_INIT };
-    blink_seat *mine = blink_enter_(one, &rooms[0], call), *theirs;
-    int32_t answer;
-    if (one == two) {
-        blink_stats stats;
-        answer = blink_stat(mine, false, &stats);
-        blink_leave_(one, mine);
-        return answer;
+    blink_seat *mine = blink_enter_(one, &rooms[0], call);
+    const uint32_t *place = NULL, *other = NULL;
+    int32_t answer = blink_place(mine, &place);
+    if (one != two) {
+        blink_seat *theirs = blink_enter_(two, &rooms[1], call);
+        if (answer == BLINK_OK) answer = blink_place(theirs, &other);
+        if (answer == BLINK_OK && place != other) answer = BLINK_OTHER_MAP;
+        if (answer == BLINK_OK && calls) answer = calls(mine, theirs);
+        blink_leave_(two, theirs);
     }
-    theirs = blink_enter_(two, &rooms[1], call);
-    answer = blink_try_same_map(mine, theirs);
-    if (answer == BLINK_OK && calls) answer = calls(mine, theirs);
     blink_leave_(one, mine);
-    blink_leave_(two, theirs);
     return answer;
 }
 

@@ -87,6 +87,7 @@ static void closed(void) {
     blink_part part = {0, 0, true, 0};
     blink_stats stats = {1, 2, 3, 4, 5, 6, 7};
     const blink_stats before = stats;
+    const uint32_t *place = NULL;
     static uint8_t bytes[LENGTH];
     size_t found = 9;
     uint64_t next = 9;
@@ -112,7 +113,8 @@ static void closed(void) {
     WANT(blink_try_meet(&seats[0], &seats[1]), BLINK_CLOSED);
     WANT(blink_close_image(seats, 1, bytes, sizeof bytes, &length), BLINK_CLOSED);
     WANT(blink_same_map(&seats[0], &seats[0]), BLINK_CLOSED);
-    WANT(blink_try_same_map(&seats[0], &seats[1]), BLINK_CLOSED);
+    WANT(blink_place(&seats[0], &place), BLINK_CLOSED);
+    HOLDS(!place);
     WANT(blink_stat(&seats[0], false, &stats), BLINK_CLOSED);
     WANT(blink_stat(&seats[0], true, &stats), BLINK_CLOSED);
     HOLDS(!memcmp(&stats, &before, sizeof stats));

@@ -1,6 +1,7 @@
 -- What calls of several seats of one map tell C.
 use Rattle.std.specs.Arc.{arc_value}
-use Rattle.std.specs.Prelude.{◌≡◌, ◌≢◌, ◌⊎◌, ◌+◌, ◌*◌, ◌<◌, ℕ, ℤ, pos, List, Option, None, Some, All, length, take, drop}
+use Rattle.std.specs.Prelude.{◌≡◌, ◌≢◌, ◌⊎◌, ◌+◌, ◌*◌, ◌<◌, ℕ, ℤ, pos, List, Option, None, Some, MatchOption, All, length, take, drop}
+use denote.RawPtr.{Ptr}
 use mathlib.Core.Option.{some}
 use lib.ListN.{get_elem?}
 use Rattle.bl_page.specs.declared.page.Page.{Page}
@@ -11,6 +12,7 @@ use Rattle.bl_ffi_seats.specs.declared.closing.CloseFault.TheVariants as fault
 use Rattle.bl_ffi_seats.specs.declared.seat.Seat.{Seat}
 use Rattle.bl_ffi_seats.specs.Seats.{IsSameSeat, KeepsUpkeep, AreOfOne, HaveMet}
 use Rattle.bl_ffi_seats.specs.Closed.{HaveClosed, IsNotClosed}
+use Rattle.bl_ffi.specs.declared.seat.SeatOfC.{SeatOfC}
 use Rattle.bl_ffi.specs.Places.{opened, closed, placed}
 
 -- two places that are open are of one map
@@ -41,10 +43,10 @@ IsOneClosed one two = (one ≡ None) ⊎ (two ≡ None)
 abbrev pub Meets : Option Seat → Option Seat → Option Seat → Option Seat → ℤ → Type 0
 Meets one two one' two' code = ((code ≡ pos 9) × IsOneClosed one two × (one' ≡ one) × (two' ≡ two)) ⊎ ((code ≡ pos 0) × ComeTogether one two one' two')
 
--- Nothing was done. The code says whether one is closed.
-abbrev pub Compares : Option Seat → Option Seat → Option Seat → Option Seat → ℤ → Type 0
-Compares one two one' two' code = (one' ≡ one) × (two' ≡ two)
-    × (((code ≡ pos 9) × IsOneClosed one two) ⊎ (((code ≡ pos 0) ⊎ (code ≡ pos 13)) × (IsOneClosed one two → ⊥)))
+-- The seat is as it was, and a closed one leaves the place as it was. Of what an open one shows no clause says more, since no clause of `Arc`
+-- says where its value lies.
+abbrev pub Shows : SeatOfC → SeatOfC → Ptr → Ptr → ℤ → Type 0
+Shows old new place place' code = MatchOption old.seat ((code ≡ pos 9) × (new.seat ≡ None) × (place' ≡ place)) (λ s. (code ≡ pos 0) × (new.seat ≡ Some s))
 
 abbrev pub IsCodeOfFault : CloseFault → ℤ → Type 0
 IsCodeOfFault fault.Missing code = code ≡ pos 11

@@ -1,4 +1,4 @@
-//! What a call answers.
+//! What a call answers. `blink.h` has one more, which its own functions answer.
 
 /// Done.
 pub(crate) const OK: i32 = 0;
@@ -26,8 +26,6 @@ pub(crate) const FEW_ROWS: i32 = 10;
 pub(crate) const SEATS_OPEN: i32 = 11;
 /// There is room for fewer bytes than the image has.
 pub(crate) const FEW_BYTES: i32 = 12;
-/// The seats are of two maps.
-pub(crate) const OTHER_MAP: i32 = 13;
 /// A share of the map was taken while its seats gave theirs up.
 pub(crate) const SEATS_LOST: i32 = 14;
 /// The keys of the rows do not rise.

@@ -25,4 +25,4 @@ pub use ranging::blink_try_range;
 pub use saving::blink_image_of;
 pub use seat::{Hidden, SeatOfC};
 pub use stats::{Stats, blink_stat};
-pub use together::{blink_image_length, blink_try_close_image, blink_try_meet, blink_try_same_map};
+pub use together::{blink_image_length, blink_place, blink_try_close_image, blink_try_meet};

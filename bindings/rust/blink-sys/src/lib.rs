@@ -274,7 +274,7 @@ extern "C" {
     ) -> i32;
     pub fn blink_try_upkeep(seat: *mut blink_seat, most: u32) -> i32;
     pub fn blink_try_meet(one: *mut blink_seat, two: *mut blink_seat) -> i32;
-    pub fn blink_try_same_map(one: *mut blink_seat, two: *mut blink_seat) -> i32;
+    pub fn blink_place(seat: *mut blink_seat, place: *mut *const u32) -> i32;
     pub fn blink_try_close_image(
         seats: *mut blink_seat,
         count: usize,
