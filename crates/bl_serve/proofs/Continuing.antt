@@ -22,15 +22,17 @@ use Rattle.bl_claims.specs.Trails.{Trail, history_of}
 use Rattle.bl_index.specs.declared.index.Index.{Index}
 use Rattle.bl_index.specs.declared.index.Pass.{Pass}
 use Rattle.bl_index.specs.Calls.{pages_of}
-use Rattle.bl_serve.specs.declared.section_reader.SectionEnd.{SectionEnd}
-use Rattle.bl_serve.specs.declared.section_reader.SectionEnd.TheVariants.{ByLine, Rest, Finished}
+use Rattle.bl_serve_reading.specs.declared.section_reader.SectionEnd.{SectionEnd}
+use Rattle.bl_serve_reading.specs.declared.section_reader.SectionEnd.TheVariants.{ByLine, Rest, Finished}
 use Rattle.bl_serve_worker.specs.Answering.{IsFor, answers_text}
-use Rattle.bl_serve.specs.Reading.{IsReadAs, bytes_of, AsksEnd, AskNoEnd, AskEndLast, ReadsLines, EndsReading}
-use Rattle.bl_serve.specs.Sections.{Held, CountsSection, end_text, is_sync, rests}
+use Rattle.bl_serve_reading.specs.Syncs.{is_sync}
+use Rattle.bl_serve_reading.specs.Reading.{IsReadAs, bytes_of, AsksEnd, AskNoEnd, AskEndLast, ReadsLines, EndsReading}
+use Rattle.bl_serve.specs.Sections.{Held, CountsSection, end_text, rests}
 use Rattle.bl_serve.specs.Serving.{AreTogether, FailsSection, ServesSection, IsInside, seen_by}
-use Rattle.bl_serve_worker.proofs.Lines.{history_append, zip_append, zip_length, text_append}
+use Rattle.bl_serve_lines.proofs.Known.{zip_append}
+use Rattle.bl_serve_worker.proofs.Lines.{history_append, zip_length, text_append}
 use Rattle.bl_serve.proofs.Holding.{first_seen}
-use Rattle.bl_serve.proofs.Cutting.{asks_none}
+use Rattle.bl_serve_reading.proofs.Cutting.{asks_none}
 use Rattle.bl_serve.proofs.Faults.{reads_of}
 use Rattle.bl_serve.proofs.Advance.{interleaves_skip}
 

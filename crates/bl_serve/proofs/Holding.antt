@@ -16,8 +16,8 @@ use Rattle.bl_index.proofs.Taken.{same_of}
 use Rattle.bl_serve.specs.Chunks.{Taken, IsTaken, IsChunk}
 use Rattle.bl_map.specs.Meetings.{Comes}
 use Rattle.bl_serve.specs.Meetings.{AllMeet}
-use Rattle.bl_serve.specs.declared.section_reader.SectionEnd.{SectionEnd}
-use Rattle.bl_serve.specs.declared.section_reader.SectionEnd.TheVariants.{ByLine, Rest, Finished}
+use Rattle.bl_serve_reading.specs.declared.section_reader.SectionEnd.{SectionEnd}
+use Rattle.bl_serve_reading.specs.declared.section_reader.SectionEnd.TheVariants.{ByLine, Rest, Finished}
 use Rattle.bl_serve_lines.specs.Text.{numbered}
 use Rattle.bl_serve.specs.Sections.{end_text}
 use Rattle.bl_serve.specs.Serving.{AreFrom, AreTogether, HoldsSection, ServesSection, seen_by}

@@ -11,7 +11,6 @@ pub mod Finite
 pub mod Spelled
 pub mod Advance
 pub mod Holding
-pub mod Cutting
 pub mod Faults
 pub mod Continuing
 pub mod Beginning

@@ -11,9 +11,9 @@ use Rattle.bl_serve_lines.proofs.Sections.{behind_none, behind_both}
 use Rattle.bl_serve_lines.proofs.Known.{consumes_more}
 use Rattle.bl_index.specs.declared.index.Pass.{Pass}
 use Rattle.bl_map.specs.Handles.{seats_of}
-use Rattle.bl_serve.specs.declared.section_reader.SectionEnd.TheVariants as section_end
+use Rattle.bl_serve_reading.specs.declared.section_reader.SectionEnd.TheVariants as section_end
 use Rattle.bl_serve.specs.Noting.{HaveNoted}
-use Rattle.bl_serve.specs.Reading.{EndsReading}
+use Rattle.bl_serve_reading.specs.Reading.{EndsReading}
 use Rattle.bl_serve.specs.Serving.{FailsSection, ServesSection, seen_by}
 use Rattle.bl_serve.proofs.Holding.{together_by_first}
 use Rattle.bl_serve.proofs.Led.{leads}

@@ -5,7 +5,7 @@ use Rattle.bl_serve_lines.specs.declared.request.Request.{Request}
 use Rattle.bl_serve_lines.specs.Served.{after_lines}
 use Rattle.bl_map.specs.Handles.{seats_of}
 use Rattle.bl_serve.specs.Noting.{HaveNoted}
-use Rattle.bl_serve.specs.Reading.{EndsReading}
+use Rattle.bl_serve_reading.specs.Reading.{EndsReading}
 use Rattle.bl_serve.proofs.Continuing.{HasServed}
 use Rattle.bl_serve.proofs.serving.serve_section.Given as goal
 

@@ -7,7 +7,7 @@ use Rattle.bl_index.specs.Calls.{first_of, pages_of, map_after}
 use Rattle.bl_outside.specs.Crashes.{FindsOnly}
 use Rattle.bl_outside.proofs.Finding.{finds_first}
 use Rattle.bl_map.specs.Handles.{seats_of}
-use Rattle.bl_serve.specs.declared.section_reader.SectionEnd.TheVariants as section_end
+use Rattle.bl_serve_reading.specs.declared.section_reader.SectionEnd.TheVariants as section_end
 use Rattle.bl_serve.specs.Serving.{seen_by}
 use Rattle.bl_serve.specs.Surviving.{Survives}
 use Rattle.bl_serve.proofs.Advance.{no_progress, stops_inside}
