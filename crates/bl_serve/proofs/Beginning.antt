@@ -40,7 +40,7 @@ none_seen [] each = refl
 none_seen (p ∷ ps) each = each 0 p refl
 
 module _ (image : List (Option Page)) (size among : ℕ) (index : Index) (passes : List Pass) (b : IsBegun image size among index passes) where
-  unseen : seen_by passes ≡ []
+  pub unseen : seen_by passes ≡ []
   unseen = none_seen passes (λ n pass at. (b.each n pass at).2)
 
   pub together : AreTogether index (seen_by passes) passes

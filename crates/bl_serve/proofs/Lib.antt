@@ -18,3 +18,6 @@ pub mod Leaving
 pub mod Noting
 pub mod Led
 pub mod Surviving
+pub mod Standing
+pub mod Wider
+pub mod Lent
