@@ -40,12 +40,15 @@ fn larger(pages: u32, most: u32, used: u64, wanted: u64) -> u32
     larger.clamp(pages, most)
 }
 
-/// How many pages an index of so many is to have before so many insertions. Where fewer than a sixteenth are free, changes look long for
-/// room.
+/// How many pages an index of so many is to have before so many insertions, where so many are free. Where fewer than a sixteenth are, changes
+/// look long for room.
 fn pages_for(pages: u32, most: u32, free: u64, insertions: u64) -> u32
     requires { pages ≤ most }
     ensures { (pages ≤ result) × (result ≤ most) }
 {
+    if insertions == 0 {
+        return pages;
+    }
     let used = u64::from(pages).saturating_sub(free);
     let wanted = wanted(insertions, used).max(u64::from(pages / 16));
     larger(pages, most, used, wanted)
