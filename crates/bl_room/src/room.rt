@@ -248,16 +248,25 @@ impl Room {
         }
     }
 
-    /// Whether so many frames are free, as they are counted, from the chunk of that frame on and around, in so many chunks.
+    /// Whether so many frames are free, as they are counted, from the chunk of that frame on and around, in so many of the chunks that have some.
     pub fn has_spare(&self, frame: u32, frames: u32, wanted: u32, chunks: u32) -> bool
         requires { frames ≤ 2 ^ 30 }
     {
         let count = frames / CHUNK + 1;
         let mut free = 0u64;
-        for step in 0..count.min(chunks) {
-            free = free.saturating_add(self.spare_at(around(frame / CHUNK, step, count)));
+        let mut left = chunks;
+        for step in 0..count {
+            let here = self.spare_at(around(frame / CHUNK, step, count));
+            if here == 0 {
+                continue;
+            }
+            free = free.saturating_add(here);
             if free >= u64::from(wanted) {
                 return true;
+            }
+            left = left.saturating_sub(1);
+            if left == 0 {
+                return false;
             }
         }
         false

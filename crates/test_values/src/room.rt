@@ -66,6 +66,17 @@ fn spare_frames_are_counted(rt: HostRuntime) -> Result<(), Fail> {
     Ok(())
 }
 
+// The pages of an image fill the first frames: 3,000 of them leave nothing in the first two chunks, and 72 frames in the third. A look over so many
+// chunks passes by those that have none.
+#[test]
+fn a_look_passes_by_full_chunks(rt: HostRuntime) -> Result<(), Fail> {
+    let first = vec![in rt.alloc(); [1u64; 32]; 3_000].ok().ok_or("no memory")?;
+    let room = Room::new(rt.alloc(), Layout::of(5_000, 2), first.as_slice())?;
+    assert!(rt; room.has_spare(0, 10_016, 72, 1) && !room.has_spare(0, 10_016, 73, 1));
+    assert!(rt; room.has_spare(0, 10_016, 1_096, 2) && !room.has_spare(0, 10_016, 1_097, 2));
+    Ok(())
+}
+
 // Of a large store no frame is counted that nobody has used: as long as each hand finds a chunk of them, it is told so.
 #[test]
 fn fresh_frames_are_left(rt: HostRuntime) -> Result<(), Fail> {
