@@ -21,3 +21,4 @@ pub mod Surviving
 pub mod Standing
 pub mod Wider
 pub mod Lent
+pub mod Owned

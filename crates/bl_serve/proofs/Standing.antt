@@ -40,7 +40,7 @@ some_between from pages seen ground passes t = let a = t.least in let b = t.rest
 
 -- ---- behind a chunk
 
-map_append : (first : List (Option Page)) (old more : Trail) → map_after first (old ++ more) ≡ final_map (map_after first old) (history_of more)
+pub map_append : (first : List (Option Page)) (old more : Trail) → map_after first (old ++ more) ≡ final_map (map_after first old) (history_of more)
 map_append first old more = ap (final_map (first_map first)) (history_append old more) ∙ final_map-append (first_map first) (history_of old) (history_of more)
 
 still_more : (from : Ground) (seen more : Trail) (ground : Ground) (olds news : List Pass) → IsStill from seen ground olds → seen_by news ≡ seen_by olds ++ more → IsStill from (seen ++ more) ground news

@@ -11,18 +11,22 @@ use bl_index::{Index, Pass, Unresized};
 use bl_serve_reading::ParsedLines;
 use std::alloc::{AllocError, Global};
 
-/// So many pages are to be free beside those that lines may take: pages that are retired, and not released yet, are none.
+/// So many pages at most are to be free beside those that lines may take, and a fourth of the pages of a small index: those that are retired,
+/// and not released yet, are not free.
 const BESIDE: u64 = 256;
+
+/// And so many at least.
+const LEAST_BESIDE: u64 = 8;
 
 /// A leaf that was split splits again behind so many insertions into it, at the earliest.
 const BETWEEN_SPLITS: u64 = 7;
 
-/// How many pages so many insertions may take, of an index that uses so many: each of its leaves may be full. A fourth stands above leaves.
-fn wanted(insertions: u64, used: u64) -> u64 {
+/// How many pages so many insertions may take, of an index of so many that uses so many: each of its leaves may be full. A fourth stands above
+/// leaves.
+fn wanted(insertions: u64, pages: u32, used: u64) -> u64 {
     let splits = insertions.min(used.saturating_add(insertions / BETWEEN_SPLITS));
-    splits
-        .saturating_add(splits / 4)
-        .saturating_add(BESIDE)
+    let beside = BESIDE.min(u64::from(pages / 4) + LEAST_BESIDE);
+    splits.saturating_add(splits / 4).saturating_add(beside)
 }
 
 /// So many pages, doubled until so many of them are free where so many are used, up to the most.
@@ -50,7 +54,7 @@ fn pages_for(pages: u32, most: u32, free: u64, insertions: u64) -> u32
         return pages;
     }
     let used = u64::from(pages).saturating_sub(free);
-    let wanted = wanted(insertions, used).max(u64::from(pages / 16));
+    let wanted = wanted(insertions, pages, used).max(u64::from(pages / 16));
     larger(pages, most, used, wanted)
 }
 

@@ -130,10 +130,11 @@ fn the_text_of_an_open_section_outlives_a_growth(rt: HostRuntime) -> Result<(), 
     begins.extend_from_slice(b"4097 inserted\n4098 inserted\n")?;
     let served = grown(&rt, alloc, input.as_slice(), Sectioning::BySync, 64);
     assert!(rt; served.is_some());
-    if let Some((text, norooms, counts)) = served {
+    if let Some((text, norooms, (pages, rows))) = served {
         assert!(rt; text.as_slice().starts_with(begins.as_slice()));
         assert!(rt; text.as_slice().ends_with(b"4136 inserted\n4137 malformed\n"));
-        assert_eq!(rt; (norooms, counts), (0, (64, 40)));
+        assert_eq!(rt; (norooms, rows), (0, 40));
+        assert!(rt; pages > 4 && pages <= 64);
     }
     Ok(())
 }
