@@ -1,7 +1,7 @@
 use Rattle.std.proofs.Common.{suc, ◌+◌, ◌-◌, ◌∙◌, rules, arith}
 use Rattle.bl_index.specs.Calls.{first_of, number_of, trail}
 use Rattle.bl_map_calls.specs.Tries.{NoneFound}
-use Rattle.bl_map_calls.proofs.Trying.{so_many_mended, mended_one}
+use Rattle.bl_map_calls.proofs.Pieces.{so_many_mended, mended_one}
 use Rattle.bl_map_calls.proofs.trying.mend_some.Goals as goal
 
 pub loop-piece-init : goal.loop-piece-init

@@ -1,5 +1,5 @@
 use Rattle.std.proofs.Common.{◌∙◌}
-use Rattle.bl_map_calls.proofs.Trying.{compression_given_up, compression_no_room, compression_done, not_lowered}
+use Rattle.bl_map_calls.proofs.Pieces.{compression_given_up, compression_no_room, compression_done, not_lowered}
 use Rattle.bl_map_calls.proofs.trying.try_compressing.Goals as goal
 
 pub returns-in_default-clause-tries : goal.returns-in_default-clause-tries

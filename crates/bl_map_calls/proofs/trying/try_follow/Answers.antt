@@ -1,5 +1,5 @@
 use Rattle.bl_map_calls.proofs.Adding.{nothing}
-use Rattle.bl_map_calls.proofs.Trying.{nothing_tried, oldest_tried, tried_adds}
+use Rattle.bl_map_calls.proofs.Pieces.{nothing_tried, oldest_tried, tried_adds}
 use Rattle.bl_map_calls.proofs.trying.try_follow.Goals as goal
 
 pub returns-in_default-clause-tries : goal.returns-in_default-clause-tries

@@ -2,7 +2,7 @@ use Rattle.std.proofs.Common.{suc, ◌+◌, ◌-◌, ◌∙◌, rules, arith}
 use Rattle.bl_index.specs.Calls.{first_of, number_of, trail}
 use Rattle.bl_map_calls.specs.Follows.{NoMore}
 use Rattle.bl_map_calls.proofs.Following.{so_many_lowered, lowers_one, lowers_none}
-use Rattle.bl_map_calls.proofs.Trying.{stops_there}
+use Rattle.bl_map_calls.proofs.Pieces.{stops_there}
 use Rattle.bl_map_calls.proofs.trying.try_lowering.Goals as goal
 
 pub loop-level-init : goal.loop-level-init

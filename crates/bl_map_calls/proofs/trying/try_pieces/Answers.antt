@@ -1,7 +1,7 @@
 use Rattle.std.proofs.Common.{suc, ◌+◌, ◌-◌, ◌∙◌, sym, rules, arith}
 use Rattle.bl_index.specs.Calls.{first_of, number_of, trail}
 use Rattle.bl_map_calls.specs.Tries.{AsManyDone}
-use Rattle.bl_map_calls.proofs.Trying.{so_many_tried, done_one, not_done, none_waits}
+use Rattle.bl_map_calls.proofs.Pieces.{so_many_tried, done_one, not_done, none_waits}
 use Rattle.bl_map_calls.proofs.trying.try_pieces.Goals as goal
 
 pub loop-piece-init : goal.loop-piece-init

@@ -1,4 +1,4 @@
-use Rattle.bl_map_calls.proofs.Trying.{post_given_up, post_done, post_no_room}
+use Rattle.bl_map_calls.proofs.Pieces.{post_given_up, post_done, post_no_room}
 use Rattle.bl_map_calls.proofs.trying.try_posting.Goals as goal
 
 pub returns-in_default-clause-tries : goal.returns-in_default-clause-tries

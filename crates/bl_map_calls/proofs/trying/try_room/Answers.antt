@@ -1,6 +1,6 @@
 use Rattle.std.proofs.Common.{◌∙◌, arith}
 use Rattle.bl_map_calls.specs.Tries.{NoneFound}
-use Rattle.bl_map_calls.proofs.Trying.{looks_add, looks_for}
+use Rattle.bl_map_calls.proofs.Pieces.{looks_add, looks_for}
 use Rattle.bl_map_calls.proofs.trying.try_room.Goals as goal
 
 pub returns-then-not-release_both-clause-looks : goal.returns-then-not-release_both-clause-looks

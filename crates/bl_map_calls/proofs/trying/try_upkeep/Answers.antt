@@ -1,5 +1,5 @@
 use Rattle.bl_index.specs.Calls.{trail}
-use Rattle.bl_map_calls.proofs.Trying.{keeps_add, keeps_on}
+use Rattle.bl_map_calls.proofs.Pieces.{keeps_add, keeps_on}
 use Rattle.bl_map_calls.proofs.trying.try_upkeep.Goals as goal
 
 pub returns-clause-keeps : goal.returns-clause-keeps

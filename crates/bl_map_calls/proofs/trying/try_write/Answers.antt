@@ -1,7 +1,7 @@
 use Rattle.std.proofs.Common.{refl, inl, rules, ◌∙◌}
 use Rattle.bl_index.specs.Calls.{trail}
 use Rattle.bl_index.proofs.Alone.{stays_alone}
-use Rattle.bl_map_calls.proofs.Trying.{looks_add, wrote_at_once, wrote_none_given_up, none_adds, writes_work}
+use Rattle.bl_map_calls.proofs.Pieces.{looks_add, wrote_at_once, wrote_none_given_up, none_adds, writes_work}
 use Rattle.bl_map_calls.proofs.trying.try_write.Goals as goal
 
 -- refused
