@@ -73,7 +73,7 @@ impl Seat {
     /// yet, or a page was another thread's. It has not been done, and nothing of it is left: it is to be made again, or not.
     pub fn write(&mut self, key: u64, write: KeyWrite) -> Option<KeyReply>
         ensures same { IsSameSeat self.old self.new }
-        ensures written { MatchOption result (HasNotWritten self.old self.new) (λ reply. HasWritten key write (reply_of reply) self.old self.new) }
+        ensures written { MatchOption result (HasNotWritten self.old self.new) (λ reply. HasWritten key write reply self.old self.new) }
     {
         trying::try_write(
             &self.index,
