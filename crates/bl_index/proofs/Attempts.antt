@@ -46,8 +46,8 @@ pub undone_told : {A : Type 0} (Left : Trail → Type 0) (from : List (Option Pa
 undone_told Left from pass old e begins None h = undone_in Left from pass old e begins h
 undone_told Left from pass old e begins (Some what) h = tt
 
-pub left_as : {A : Type 0} (Left : ℕ → Trail → Type 0) (from : List (Option Page)) (pass level as : ℕ) (old new : Trail) (r : Option A) → level ≡ as → IfNone r (GivesUp (Left level) from pass old new) → IfNone r (GivesUp (Left as) from pass old new)
-left_as Left from pass level as old new r is h = subst (λ (z : ℕ). IfNone r (GivesUp (Left z) from pass old new)) is h
+pub left_as : {A : Type 0} (Left : ℕ → Trail → Type 0) (from : List (Option Page)) (pass level level' : ℕ) (old new : Trail) (r : Option A) → level ≡ level' → IfNone r (GivesUp (Left level) from pass old new) → IfNone r (GivesUp (Left level') from pass old new)
+left_as Left from pass level level' old new r is h = subst (λ (z : ℕ). IfNone r (GivesUp (Left z) from pass old new)) is h
 
 -- ---- a write
 

@@ -1,5 +1,5 @@
 -- A lowering that may not wait gives up where it holds no page.
-use Rattle.std.proofs.Common.{ℕ, ◌≡◌, true, false, None, Some, List, Option, refl, sym, ap, ◌∙◌, subst}
+use Rattle.std.proofs.Common.{ℕ, ◌≡◌, true, false, None, Some, List, [], Option, refl, sym, ap, ◌∙◌, subst}
 use Rattle.std.proofs.lemmas.Bool.{false≢true}
 use Rattle.bl_page.specs.declared.page.Page.{Page}
 use Rattle.bl_claims.specs.Trails.{Trail, marks_of}

@@ -73,17 +73,17 @@ returns-then-is_at_top-clause-seen c = c.give_up.ensures.observed.notes.seen
 pub returns-then-is_at_top-clause-rests : goal.returns-then-is_at_top-clause-rests
 returns-then-is_at_top-clause-rests c = record { idle = c.give_up.ensures.idle; within = c.give_up.ensures.within; over = c.give_up.ensures.observed.runs }
 
-pub returns-else-is_at_top-clause-undone : goal.returns-else-is_at_top-clause-undone
-returns-else-is_at_top-clause-undone c =
+pub returns-clause-undone : goal.returns-clause-undone
+returns-clause-undone c =
     let e = c.carry_briefly.ensures in let not = c.if-carry_briefly.false in
     lower_undone c.carry_briefly.new.process c.args.hand.now.number (known c.args.hand.now.seat) (known c.carry_briefly.new.hand.seat) (known c.give_up-2.new.hand.seat)
     (turned_back c.carry_briefly.new.process.stage (e.back not) (sym c.is_at_top.ensures ∙ c.if-is_at_top.false)) (e.since not _ _ c.begin.ensures.begun) (e.runs not).on.state c.give_up-2.ensures.observed c.give_up-2.ensures.leaves
 
-pub returns-else-is_at_top-clause-first : goal.returns-else-is_at_top-clause-first
-returns-else-is_at_top-clause-first c = c.give_up-2.ensures.observed.notes.first ∙ (c.carry_briefly.ensures.since c.if-carry_briefly.false _ _ c.begin.ensures.begun).beginning
+pub returns-clause-first : goal.returns-clause-first
+returns-clause-first c = c.give_up-2.ensures.observed.notes.first ∙ (c.carry_briefly.ensures.since c.if-carry_briefly.false _ _ c.begin.ensures.begun).beginning
 
-pub returns-else-is_at_top-clause-seen : goal.returns-else-is_at_top-clause-seen
-returns-else-is_at_top-clause-seen c = c.give_up-2.ensures.observed.notes.seen
+pub returns-clause-seen : goal.returns-clause-seen
+returns-clause-seen c = c.give_up-2.ensures.observed.notes.seen
 
-pub returns-else-is_at_top-clause-rests : goal.returns-else-is_at_top-clause-rests
-returns-else-is_at_top-clause-rests c = record { idle = c.give_up-2.ensures.idle; within = c.give_up-2.ensures.within; over = c.give_up-2.ensures.observed.runs }
+pub returns-clause-rests : goal.returns-clause-rests
+returns-clause-rests c = record { idle = c.give_up-2.ensures.idle; within = c.give_up-2.ensures.within; over = c.give_up-2.ensures.observed.runs }
