@@ -19,7 +19,7 @@ use Rattle.bl_model.specs.Replies.{reply_of}
 use Rattle.bl_index_read.specs.Searching.{found_of, AnswersOrRunsOut}
 use Rattle.bl_index_read.specs.declared.finding.OutOfTurns.{OutOfTurns}
 use Rattle.bl_model.specs.declared.operation.KeyReply.{KeyReply}
-use Rattle.bl_index.specs.Calls.{passes_of, first_of, number_of, trail, IsPassOf, StepsAlone, map_after}
+use Rattle.bl_index.specs.Calls.{passes_of, first_of, number_of, trail, IsPassOf, IsSamePass, StepsAlone, StaysAlone, map_after}
 use Rattle.bl_index_events.specs.Answered.{Answers}
 use Rattle.bl_index_events.specs.Runs.{IsWithin}
 use Rattle.atomic_table.specs.declared.shared.Seat.{Seat}
@@ -53,6 +53,10 @@ alone_answers from op reply old new w v seen once =
       after = λ key. ap (λ (m : Map). m key) (ap (final_map (first_map from)) grown ∙ final_map-push (first_map from) (history_of old) e);
     }
 
+-- a call that adds none leaves the map
+pub alone_stays : (from : List (Option Page)) (old new : Trail) → AreWithin 1 old → AreWithin 1 new → own 0 new ≡ own 0 old → map_after from new ≡ map_after from old
+alone_stays from old new w v none = ap (final_map (first_map from)) (sym (whole_own new v) ∙ (none ∙ whole_own old w))
+
 -- what a pass has seen was done by the passes of its index
 pub pass_within : (index : Index) (pass : Pass) → IsPassOf index pass → AreWithin (passes_of index) (trail pass)
 pass_within index pass of = subst (λ (z : Layout). AreWithin z.passes (trail pass)) of.1 pass.within
@@ -82,3 +86,14 @@ module _ (index : Index) (old : Pass) (h : Seat (Unit {0}) (View PassState)) (op
   pub keys_alone : (pages turns : ℕ) (result : Result KeyReply OutOfTurns) → AnswersOrRunsOut (first_of index) pages (number_of old) turns op (found_of result) (trail old) new → IfOk result (λ reply. StepsAlone (first_of index) index op (reply_of reply) (trail old) new)
   keys_alone pages turns (Ok reply) answered = steps_alone (reply_of reply) answered.answered.answers
   keys_alone pages turns (Err fault) answered = tt
+
+-- A call of the only pass that adds no entry.
+pub stays_alone : (index : Index) (old new : Pass) → IsPassOf index old → IsSamePass old new → own (number_of old) (trail new) ≡ own (number_of old) (trail old) → StaysAlone (first_of index) index (trail old) (trail new)
+stays_alone index old new of same none one =
+    let passes : old.hand.seat.me.0.layout.passes ≡ 1 = ap (λ (z : Layout). z.passes) of.1 ∙ one in
+    let mine = old.hand.own in
+    let first : number_of old ≡ 0 = omega (arith, mine.0, mine.1, passes) in
+    alone_stays (first_of index) (trail old) (trail new)
+    (subst (λ (z : ℕ). AreWithin z (trail old)) one (pass_within index old of))
+    (subst (λ (z : ℕ). AreWithin z (trail new)) (ap (λ (z : Layout). z.passes) (same.1 ∙ of.1) ∙ one) new.within)
+    (subst (λ (n : ℕ). own n (trail new) ≡ own n (trail old)) first none)

@@ -18,3 +18,5 @@ pub mod Gathered
 pub mod AtRest
 pub mod Reopening
 pub mod Resized
+pub mod GivingUp
+pub mod Attempts

@@ -92,6 +92,10 @@ IsSamePass old new = (new.hand.seat.table_id ≡ old.hand.seat.table_id) × (new
 abbrev pub StepsAlone : List (Option Page) → Index → Op → Reply → Trail → Trail → Type 0
 StepsAlone first index op reply old new = index.store.layout.passes ≡ 1 → IsMapStep (map_after first old) op reply (map_after first new)
 
+-- In an index of one pass the map is as it was.
+abbrev pub StaysAlone : List (Option Page) → Index → Trail → Trail → Type 0
+StaysAlone first index old new = index.store.layout.passes ≡ 1 → map_after first new ≡ map_after first old
+
 -- A sweep of the pass that answered a number. Its events are releases of pages, no more than that number, all of them by one
 -- process of its own, which had done nothing before and does not begin. The entries of the pass are those of before, and if
 -- what the pass had seen was linearizable, then so is what it has seen now.
@@ -146,6 +150,11 @@ pub record Compresses (first : List (Option Page)) (pass level key : ℕ) (answe
   pub adds : SaysNothing first pass old new
   pub means : MeansSqueezed level key answer next (marks_of (name pass adds.number) new)
   pub latches : LatchesBeside level key (marks_of (name pass adds.number) new)
+
+-- A call has not been done: it says nothing of the map, and its process has given up and leaves no more than that.
+pub record GivesUp (Left : Trail → Type 0) (first : List (Option Page)) (pass : ℕ) (old new : Trail) : Type 0 where
+  pub adds : SaysNothing first pass old new
+  pub left : Left (marks_of (name pass adds.number) new)
 
 -- A lowering is answered: it says nothing of the map, and what its process has done is what its answer means. When it latched a
 -- page it held the anchor at most.

@@ -1,16 +1,25 @@
 -- What functions of the index tell one another: the kind of an answer, and how a scan goes on behind one of its parts.
-use Rattle.std.specs.Prelude.{◌≡◌, ℕ, Option, None, Some, Result, Ok, Err}
+use Rattle.std.specs.Prelude.{◌≡◌, ℕ, Bool, true, false, Option, None, Some, Result, Ok, Err}
 use Rattle.bl_claims.specs.Seeing.{IsSeen}
 use Rattle.bl_claims.specs.Trails.{Trail}
 use Rattle.bl_index_read.specs.Parts.{StandsBehind}
 use Rattle.bl_index_read.specs.declared.leaf_rows.Behind.{Behind}
 use Rattle.bl_proc.specs.declared.parts.Direction.{Direction}
 use Rattle.bl_index_rule.specs.declared.known.PassState.{PassState}
-use Rattle.bl_index_events.specs.Runs.{Rests}
+use Rattle.bl_index_events.specs.Runs.{IsDone, Rests}
 use Rattle.bl_index_events.specs.declared.tree.Tree.{Tree}
 use Rattle.bl_answers.specs.declared.answers.Answer.TheVariants.{Op, Post, Compress, Reclaim, Lower, InsertPost}
 use Rattle.bl_answers.specs.declared.answers.Answer.{Answer}
 use Rattle.bl_proc_steps.specs.declared.descent.Descent.{Descent}
+use Rattle.bl_answers.specs.declared.answers.Lowered.{Lowered}
+use Rattle.bl_proc_steps.specs.declared.lowering.Lowering.{Lowering}
+use Rattle.bl_proc_steps.specs.declared.lowering.Lowering.TheVariants.{LatchingTop}
+use Rattle.bl_proc.specs.declared.lowering.Lower.{Lower as LowerIs}
+use Rattle.bl_proc.specs.declared.lowering.LowerStage.{LowerStage}
+use Rattle.bl_proc.specs.declared.lowering.LowerStage.TheVariants.{Sinking}
+use Rattle.bl_proc.specs.declared.kinds.Proc.{Proc}
+use Rattle.bl_proc.specs.declared.kinds.Proc.TheVariants as proc
+use Rattle.bl_proc.specs.Lowers.{lower_answer}
 use Rattle.bl_store.specs.Hands.{known}
 use Rattle.bl_store.specs.declared.store.Hand.{Hand}
 
@@ -45,3 +54,19 @@ abbrev pub GoesOrStops : {E : Type 0} → Tree → Hand PassState → ℕ → Di
     → PassState → Result (Behind × Descent) E → Type 0
 GoesOrStops tree hand pass direction goes stops old (Ok on) = GoesBehind tree hand pass direction on.0 on.1 (goes on.0) old
 GoesOrStops tree hand pass direction goes stops old (Err fault) = StopsBefore hand (stops fault) old
+
+-- The lowering has ended, and has answered that.
+pub record HasSunk (pass : ℕ) (old e : PassState) (what : Lowered) : Type 0 where
+  pub first : Proc
+  pub last : LowerIs
+  pub done : IsDone pass old e first (proc.Lower last)
+  pub answer : lower_answer last ≡ Some (Lower what)
+
+abbrev pub is_sink_at_top : Lowering → Bool
+is_sink_at_top (LatchingTop t) = true
+is_sink_at_top l = false
+
+-- it holds the anchor, and is to latch the top page
+abbrev pub is_at_top : LowerStage → Bool
+is_at_top (Sinking l) = is_sink_at_top l
+is_at_top s = false

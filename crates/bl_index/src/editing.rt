@@ -1,6 +1,6 @@
 //! Insertions, puts, deletions and changes.
 
-ghost use Rattle.std.specs.Prelude.{◌≡◌, ℕ, None};
+ghost use Rattle.std.specs.Prelude.{◌≡◌, ℕ, None, IfSome, IfNone};
 ghost use Rattle.bl_model.specs.declared.deciding.KeyWrite.TheVariants as key_write;
 ghost use Rattle.bl_model.specs.declared.operation.Op.TheVariants as op;
 ghost use Rattle.bl_model.specs.declared.operation.KeyReply.TheVariants as replies;
@@ -8,14 +8,15 @@ ghost use Rattle.bl_model.specs.Replies.{reply_of};
 ghost use Rattle.bl_model.specs.Writes.{write_op};
 
 use crate::index::{Index, Pass};
-use bl_index_write::write_key;
+use bl_index_write::{try_write, write_key};
 use bl_model::{KeyReply, KeyWrite};
 use bl_proc::Hint;
 use std::sync::Wait;
 
 impl Index {
     ghost use Rattle.bl_store.specs.Hands.{WasRefused};
-    ghost use Rattle.bl_index.specs.Calls.{first_of, IsPassOf, IsSamePass, number_of, trail, Writes, Inserts, InsertLacks, WriteLacks, StepsAlone};
+    ghost use Rattle.bl_index_events.specs.Answered.{WritesNothing};
+    ghost use Rattle.bl_index.specs.Calls.{first_of, IsPassOf, IsSamePass, number_of, trail, Writes, Inserts, InsertLacks, WriteLacks, StepsAlone, GivesUp};
 
     /// Writes the key so: an insertion, a put, a deletion or a change, each of which is also a call of its own, below. It answers what that
     /// call answers.
@@ -34,6 +35,27 @@ impl Index {
         ensures alone { StepsAlone (first_of self.now) self.now (write_op key write) (reply_of result.0) (trail pass.old) (trail pass.new) }
     {
         write_key(&self.tree, rt, &mut pass.hand, key, write)
+    }
+
+    /// The same, or gives up: it waits for nothing, and gets so many pages at most on its way to the leaf. None: a page that it was to latch is
+    /// another process's, or its way was longer. It has not been done, and nothing of it is left.
+    pub fn try_write(
+        &self,
+        pass: &mut Pass,
+        key: u64,
+        write: KeyWrite,
+        turns: u32,
+    ) -> Option<(KeyReply, Option<Hint>)>
+        requires { IsPassOf self.now pass.old }
+        ensures same { IsSamePass pass.old pass.new }
+        ensures writes { IfSome result (λ said. Writes (first_of self.now) (number_of pass.old) (write_op key write) (reply_of said.0) said.1
+            (trail pass.old) (trail pass.new)) }
+        ensures no_room { IfSome result (λ said. said.0 ≡ replies.NoRoom → WriteLacks pass.old key write pass.new) }
+        ensures alone { IfSome result (λ said. StepsAlone (first_of self.now) self.now (write_op key write) (reply_of said.0) (trail pass.old)
+            (trail pass.new)) }
+        ensures undone { IfNone result (GivesUp WritesNothing (first_of self.now) (number_of pass.old) (trail pass.old) (trail pass.new)) }
+    {
+        try_write(&self.tree, &mut pass.hand, key, write, turns)
     }
 
     /// Puts the value at the key, where the key has none. It answers `Inserted`; `Present` with the value that the key has, which stays;

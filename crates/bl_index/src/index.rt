@@ -70,6 +70,15 @@ impl Model for Pass {
 }
 
 impl Pass {
+    ghost use Rattle.bl_index.specs.Calls.{number_of};
+
+    /// Its number among the passes of its index, from 0 on.
+    pub fn number(&self) -> u32
+        ensures { result ≡ number_of self.now }
+    {
+        self.hand.number()
+    }
+
     /// Whether a sweep is worth its time now. It is a hint: a sweep does its whole work whatever this says.
     pub fn is_due(&self) -> bool {
         self.hand.is_due()

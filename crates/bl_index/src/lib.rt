@@ -5,9 +5,9 @@
 //! Each thread works with a [`Pass`], which knows all that has happened in the index up to its own last event. Promised
 //! to its caller: after each call there is one legal list of events and one legal history of the map, in which each
 //! answer stands at its point; both begin with those that the pass knew before, and the call's own entry is the only new
-//! one of this pass. The events begin with what the index began with: with nothing, or with the pages of a sound image, and
-//! so with the map of its rows. A post, a compression, a lowering and a sweep have no entry; what the first three answer, and
-//! their hints, mean what they did.
+//! one of this pass. A call that may give up and gives no answer was not done, and adds none. The events begin with what
+//! the index began with: with nothing, or with the pages of a sound image, and so with the map of its rows. A post, a
+//! compression, a lowering and a sweep have no entry; what the first three answer, and their hints, mean what they did.
 #![tactic(auto)]
 
 mod climbing;

@@ -12,6 +12,7 @@ ghost use Rattle.bl_proc.specs.declared.kinds.Proc.{Proc};
 ghost use Rattle.bl_proc_deterministic.specs.Frames.{work_of};
 ghost use Rattle.bl_store.specs.Hands.{known, read_words, IsIdle, IsSameHand, HasNoStock, ReadsFrom, WasRefused};
 ghost use Rattle.bl_store.specs.Owners.{IsHandOf};
+ghost use Rattle.bl_claims.specs.Seeing.{IsSeen};
 ghost use Rattle.bl_index_rule.specs.declared.known.PassState.{PassState as Knows};
 ghost use Rattle.bl_index_events.specs.Answered.{Undone, WritesNothing};
 ghost use Rattle.bl_index_events.specs.Runs.{Runs, Rests, IsOn, IsSince, IsSameProcess};
@@ -177,6 +178,8 @@ pub fn try_compress(
         × HasCompressed hand.old.number (known hand.old.seat) (known hand.new.seat) first answer.0 answer.1) }
     ensures no_room { IfSome result (λ answer. answer.0 ≡ said.NoRoom → WasRefused hand.new.seat 0 3) }
     ensures undone { IfNone result (Undone WritesNothing hand.old.number (known hand.old.seat) (known hand.new.seat)) }
+    ensures first { (known hand.new.seat).first ≡ (known hand.old.seat).first }
+    ensures seen { IsSeen (known hand.new.seat).first (known hand.new.seat).trail }
 {
     let target = CompressTarget {
         level,

@@ -15,6 +15,7 @@ ghost use Rattle.bl_proc_writes.specs.Posts.{posted_answer};
 ghost use Rattle.bl_proc_deterministic.specs.Frames.{work_of};
 ghost use Rattle.bl_store.specs.Hands.{known, read_words, IsIdle, IsSameHand, HasNoStock, ReadsFrom};
 ghost use Rattle.bl_store.specs.Owners.{IsHandOf};
+ghost use Rattle.bl_claims.specs.Seeing.{IsSeen};
 ghost use Rattle.bl_index_rule.specs.declared.known.PassState.{PassState as Knows};
 ghost use Rattle.bl_claims.specs.Meanings.{HasRaised};
 ghost use Rattle.bl_index_events.specs.Answered.{Undone};
@@ -279,6 +280,8 @@ pub fn try_post(
         × HasPosted hand.old.number (known hand.old.seat) (known hand.new.seat) first said.0 said.1) }
     ensures no_room { IfSome result (λ said. said.0 ≡ postings.NoRoom → LacksPost level key hand.new.seat) }
     ensures undone { IfNone result (Undone (HasRaised level) hand.old.number (known hand.old.seat) (known hand.new.seat)) }
+    ensures first { (known hand.new.seat).first ≡ (known hand.old.seat).first }
+    ensures seen { IsSeen (known hand.new.seat).first (known hand.new.seat).trail }
 {
     match post_within(tree, hand, level, key, turns) {
         Ok(said) => Some(said),

@@ -10,6 +10,7 @@ ghost use Rattle.bl_proc_writes.specs.declared.writing.WriteStage.TheVariants as
 ghost use Rattle.bl_proc_writes.specs.Writes.{write_answer};
 ghost use Rattle.bl_store.specs.Hands.{known, read_words, IsIdle, IsSameHand, HasNoStock, ReadsFrom};
 ghost use Rattle.bl_store.specs.Owners.{IsHandOf};
+ghost use Rattle.bl_claims.specs.Seeing.{IsSeen};
 ghost use Rattle.bl_index_rule.specs.declared.known.PassState.{PassState as Knows};
 ghost use Rattle.bl_index_events.specs.Answered.{Undone, WritesNothing};
 ghost use Rattle.bl_index_events.specs.Rooms.{LacksWrite};
@@ -157,6 +158,8 @@ pub fn try_write(
         HasWritten hand.old.number (known hand.old.seat) (known hand.new.seat) key write (answers.Op (reply_of said.0) said.1)) }
     ensures no_room { IfSome result (λ said. said.0 ≡ replies.NoRoom → LacksWrite key write hand.new.seat) }
     ensures undone { IfNone result (Undone WritesNothing hand.old.number (known hand.old.seat) (known hand.new.seat)) }
+    ensures first { (known hand.new.seat).first ≡ (known hand.old.seat).first }
+    ensures seen { IsSeen (known hand.new.seat).first (known hand.new.seat).trail }
 {
     match write_within(tree, hand, key, write, turns) {
         Ok(said) => Some(said),

@@ -1,4 +1,3 @@
 pub mod Handles
 pub mod Meetings
-pub mod Seats
 pub mod Maps

@@ -10,7 +10,7 @@ ghost use Rattle.bl_model.specs.Replies.{reply_of};
 ghost use Rattle.bl_model.specs.Writes.{write_op};
 ghost use Rattle.bl_proc.specs.declared.parts.Direction.TheVariants as directions;
 ghost use Rattle.bl_index.specs.Calls.{IsPassOf, Sweeps};
-ghost use Rattle.bl_map.specs.Seats.{IsPassOf-prop};
+ghost use Rattle.bl_map_calls.specs.Seats.{IsPassOf-prop};
 ghost use Rattle.bl_map_calls.specs.declared.updating.Updated.TheVariants as updated;
 
 use bl_check::Quiet;

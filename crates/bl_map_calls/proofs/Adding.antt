@@ -57,6 +57,13 @@ swept_as first pass it old new e s = subst (λ (z : ℕ). Swept first z old new)
 pub swept_more : (first : List (Option Page)) (pass it answer : ℕ) (old mid new : Trail) → it ≡ pass → Swept first pass old mid → Sweeps first it answer mid new → Swept first pass old new
 swept_more first pass it answer old mid new e s one = Again s (subst (λ (z : ℕ). Sweeps first z answer mid new) e one)
 
+swept_on_own : (first : List (Option Page)) (pass : ℕ) (old mid new : Trail) → Swept first pass old mid → Swept first pass mid new → Swept first pass old new
+swept_on_own first pass old mid new s Never = s
+swept_on_own first pass old mid new s (Again {mid = next} t one) = Again (swept_on_own first pass old mid next s t) one
+
+pub swept_on : (first : List (Option Page)) (pass it : ℕ) (old mid new : Trail) → it ≡ pass → Swept first pass old mid → Swept first it mid new → Swept first pass old new
+swept_on first pass it old mid new e s t = swept_on_own first pass old mid new s (swept_as first pass it mid new e t)
+
 pub lost_more : (first : List (Option Page)) (pages pass it turns : ℕ) (es : List Entry) (old mid new : Trail) → it ≡ pass → turns ≡ pages → Searches first pages pass es old mid → RunsOut first pages it turns mid new → Searches first pages pass es old new
 lost_more first pages pass it turns es old mid new e f s r =
     OneLost s (subst (λ (z : ℕ). RunsOut first pages pass z mid new) f (subst (λ (z : ℕ). RunsOut first pages z turns mid new) e r))

@@ -26,7 +26,7 @@ use Rattle.bl_map_calls.proofs.Adding.{nothing, then_adds, call_adds, call_works
 
 -- ---- what they add
 
-lowers_add : (first : List (Option Page)) (pass most : ℕ) (old new : Trail) → Lowers first pass most old new → Adds first pass old new
+pub lowers_add : (first : List (Option Page)) (pass most : ℕ) (old new : Trail) → Lowers first pass most old new → Adds first pass old new
 lowers_add first pass most old new NoMore = nothing first pass old
 lowers_add first pass most old new (OneTaken {most = fewer} {mid = mid} {next = next} s l on) =
     then_adds first pass old mid new (swept_adds first pass old mid s)
@@ -45,7 +45,7 @@ hint_adds first pass h result old new (CompressionDone {answer = answer} {mid = 
 hint_adds first pass h result old new (CompressionRefused {mid = mid} s c) =
     then_adds first pass old mid new (swept_adds first pass old mid s) (call_adds first pass pass mid new refl c.adds)
 
-stays_adds : (first : List (Option Page)) (pass : ℕ) (old new : Trail) → new ≡ old → Adds first pass old new
+pub stays_adds : (first : List (Option Page)) (pass : ℕ) (old new : Trail) → new ≡ old → Adds first pass old new
 stays_adds first pass old new e = subst (λ (z : Trail). Adds first pass old z) (sym e) (nothing first pass old)
 
 pub hints_add : (first : List (Option Page)) (pass most : ℕ) (start left : Option Hint) (old new : Trail) → FollowsHints first pass most start left old new → Adds first pass old new
@@ -155,7 +155,7 @@ so_many_tried first pass n m before after old new is t = subst (λ (z : ℕ). Ar
 
 -- ---- one more
 
-lowering_as : (first : List (Option Page)) (pass it : ℕ) (answer : Lowered) (old new : Trail) → it ≡ pass → LowersTree first it answer old new → LowersTree first pass answer old new
+pub lowering_as : (first : List (Option Page)) (pass it : ℕ) (answer : Lowered) (old new : Trail) → it ≡ pass → LowersTree first it answer old new → LowersTree first pass answer old new
 lowering_as first pass it answer old new same l = subst (λ (z : ℕ). LowersTree first z answer old new) same l
 
 -- a level was taken away, and others may be

@@ -1,8 +1,10 @@
+pub mod Seats
 pub mod Works
 pub mod Entries
 pub mod Finds
 pub mod Follows
 pub mod Waits
+pub mod Tries
 pub mod Many
 pub mod Scans
 pub mod Leasts

@@ -12,21 +12,21 @@ use bl_waiting::Waiting;
 use std::sync::Wait;
 
 /// How often all pages are walked over at most before an insertion that lacks a page. A walk that finds nothing is the last one.
-const WALKS: u32 = 4;
+pub(crate) const WALKS: u32 = 4;
 
 /// And how often to put a map in order.
 const ROUNDS: u32 = 64;
 
 /// Where pages are scarce, but there is one for each hand, a walk before an insertion looks at so many pages at most: it is to take no
 /// time that anybody feels.
-const PIECE: u32 = 64;
+pub(crate) const PIECE: u32 = 64;
 
 /// How many pieces of upkeep wait at most.
 const WAITING: u32 = 32;
 
 /// How far a walk over pages goes.
 #[derive(Clone, Copy, Debug, PartialEq, Eq)]
-enum Extent {
+pub(crate) enum Extent {
     /// To the end.
     Whole,
     /// Until pages are no longer scarce, as soon as those are released that are retired.
@@ -35,13 +35,13 @@ enum Extent {
 
 /// Whether a walk over all pages is to be made for an insertion: not each hand may find a page, and it is not known that a walk would find
 /// nothing.
-fn wants_walk(index: &Index) -> bool {
+pub(crate) fn wants_walk(index: &Index) -> bool {
     let room = &index.tree().store.room;
     room.is_short_of_pages() && !room.has_none()
 }
 
 /// Whether a walk has come as far as it is to go.
-fn is_enough(index: &Index, extent: Extent) -> bool {
+pub(crate) fn is_enough(index: &Index, extent: Extent) -> bool {
     extent == Extent::Enough && index.tree().store.room.is_freeing_enough()
 }
 

@@ -13,4 +13,5 @@ mod scans;
 mod seats;
 mod tables;
 mod trials;
+mod tries;
 mod updates;

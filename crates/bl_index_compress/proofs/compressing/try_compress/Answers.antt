@@ -1,5 +1,6 @@
 use Rattle.std.proofs.Common.{refl, ◌∙◌}
 use Rattle.bl_store.specs.Hands.{known}
+use Rattle.bl_index_events.proofs.Ends.{done_first}
 use Rattle.bl_index_compress.proofs.GivingUp.{compress_may_give_up, compress_undone}
 use Rattle.bl_index_compress.proofs.compressing.try_compress.Goals as goal
 
@@ -37,3 +38,15 @@ pub returns-in-None-clause-undone : goal.returns-in-None-clause-undone
 returns-in-None-clause-undone c =
     let back = c.in-None.ensures.back in
     compress_undone _ back.way c.args.hand.now.number (known c.args.hand.now.seat) (known c.compress_once.new.hand.seat) (known c.give_up.new.hand.seat) back.free (back.since _ _ c.begin_descent.ensures.begun) back.runs.on.state c.give_up.ensures.observed c.give_up.ensures.leaves
+
+pub returns-in-Some-clause-first : goal.returns-in-Some-clause-first
+returns-in-Some-clause-first c = done_first _ _ _ _ _ (c.in-Some.ensures.over.is_compressed _ _ c.begin_descent.ensures.begun).done
+
+pub returns-in-Some-clause-seen : goal.returns-in-Some-clause-seen
+returns-in-Some-clause-seen c = (c.in-Some.ensures.over.is_compressed _ _ c.begin_descent.ensures.begun).done.observed.notes.seen
+
+pub returns-in-None-clause-first : goal.returns-in-None-clause-first
+returns-in-None-clause-first c = c.give_up.ensures.observed.notes.first ∙ (c.in-None.ensures.back.since _ _ c.begin_descent.ensures.begun).beginning
+
+pub returns-in-None-clause-seen : goal.returns-in-None-clause-seen
+returns-in-None-clause-seen c = c.give_up.ensures.observed.notes.seen

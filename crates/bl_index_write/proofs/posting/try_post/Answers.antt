@@ -5,6 +5,7 @@ use Rattle.bl_proc.specs.declared.kinds.Proc.TheVariants as proc
 use Rattle.bl_proc_deterministic.specs.Refusals.{IsNoRoom}
 use Rattle.bl_store.specs.Hands.{known}
 use Rattle.bl_index_events.specs.Rooms.{LacksPost}
+use Rattle.bl_index_events.proofs.Ends.{done_first}
 use Rattle.bl_index_events.proofs.Rooms.{lacks_asked}
 use Rattle.bl_index_events.proofs.Quiet.{first_of}
 use Rattle.bl_index_write.proofs.GivingUp.{begins_outside, post_may_give_up, post_undone, rises_outside, turned_back}
@@ -74,3 +75,28 @@ returns-else-carry_briefly-clause-undone c =
     let not = c.if-carry_briefly.false in
     post_undone c.carry_briefly.new.process c.args.level c.args.hand.now.number (known c.args.hand.now.seat) (known c.carry_briefly.new.hand.seat) (known c.give_up-in-Err.new.hand.seat)
     (first_of (e.work not) ∙ underway.0.level_is) (turned_back c.carry_briefly.new.process.stage (e.back not)) (e.since not _ _ underway.1) (e.runs not).on.state c.give_up-in-Err.ensures.observed c.give_up-in-Err.ensures.leaves
+
+pub returns-in-Ok-clause-first : goal.returns-in-Ok-clause-first
+returns-in-Ok-clause-first c = done_first _ _ _ _ _ c.in-Ok.ensures.ended.2.2.done
+
+pub returns-in-Ok-clause-seen : goal.returns-in-Ok-clause-seen
+returns-in-Ok-clause-seen c = c.in-Ok.ensures.ended.2.2.done.observed.notes.seen
+
+pub returns-then-begins_again-clause-first : goal.returns-then-begins_again-clause-first
+returns-then-begins_again-clause-first c = c.give_up.ensures.observed.notes.first ∙ c.in-Err.ensures.underway.1.beginning
+
+pub returns-then-begins_again-clause-seen : goal.returns-then-begins_again-clause-seen
+returns-then-begins_again-clause-seen c = c.give_up.ensures.observed.notes.seen
+
+pub returns-then-carry_briefly-clause-first : goal.returns-then-carry_briefly-clause-first
+returns-then-carry_briefly-clause-first c = done_first _ _ _ _ _ (c.carry_briefly.ensures.done c.if-carry_briefly.true _ _ c.in-Err.ensures.underway.1)
+
+pub returns-then-carry_briefly-clause-seen : goal.returns-then-carry_briefly-clause-seen
+returns-then-carry_briefly-clause-seen c = (c.carry_briefly.ensures.done c.if-carry_briefly.true _ _ c.in-Err.ensures.underway.1).observed.notes.seen
+
+pub returns-else-carry_briefly-clause-first : goal.returns-else-carry_briefly-clause-first
+returns-else-carry_briefly-clause-first c =
+    c.give_up-in-Err.ensures.observed.notes.first ∙ (c.carry_briefly.ensures.since c.if-carry_briefly.false _ _ c.in-Err.ensures.underway.1).beginning
+
+pub returns-else-carry_briefly-clause-seen : goal.returns-else-carry_briefly-clause-seen
+returns-else-carry_briefly-clause-seen c = c.give_up-in-Err.ensures.observed.notes.seen

@@ -1,5 +1,6 @@
 use Rattle.std.proofs.Common.{◌∙◌}
 use Rattle.bl_store.specs.Hands.{known}
+use Rattle.bl_index_events.proofs.Ends.{done_first}
 use Rattle.bl_index_write.proofs.GivingUp.{write_may_give_up, write_undone}
 use Rattle.bl_index_write.proofs.writing.try_write.Goals as goal
 
@@ -37,3 +38,15 @@ returns-in-Err-clause-undone c =
     let underway = c.in-Err.ensures.underway in
     write_undone c.args.key c.args.write c.in-Err._way c.args.hand.now.number (known c.args.hand.now.seat) (known c.write_within.new.hand.seat) (known c.give_up.new.hand.seat) underway.0 underway.2 underway.1.on.state
     c.give_up.ensures.observed c.give_up.ensures.leaves
+
+pub returns-in-Ok-clause-first : goal.returns-in-Ok-clause-first
+returns-in-Ok-clause-first c = done_first _ _ _ _ _ c.in-Ok.ensures.ended.1.done
+
+pub returns-in-Ok-clause-seen : goal.returns-in-Ok-clause-seen
+returns-in-Ok-clause-seen c = c.in-Ok.ensures.ended.1.done.observed.notes.seen
+
+pub returns-in-Err-clause-first : goal.returns-in-Err-clause-first
+returns-in-Err-clause-first c = c.give_up.ensures.observed.notes.first ∙ c.in-Err.ensures.underway.2.beginning
+
+pub returns-in-Err-clause-seen : goal.returns-in-Err-clause-seen
+returns-in-Err-clause-seen c = c.give_up.ensures.observed.notes.seen

@@ -1,0 +1,14 @@
+use Rattle.std.proofs.Common.{◌≡◌, ◌+◌, ℕ}
+use Rattle.bl_index.specs.Calls.{first_of, IsSamePass, number_of, trail}
+use Rattle.bl_claims.specs.Trails.{Trail}
+use Rattle.bl_waiting.specs.declared.waiting.Waiting.{Waiting}
+use Rattle.bl_map_calls.specs.Tries.{Mends}
+use Rattle.bl_map_calls.proofs.trying.mend_some.Given as goal
+
+abbrev pub invariant-loop-piece : goal.invariant-loop-piece
+invariant-loop-piece l = record {
+  same : IsSamePass l.fn.pass l.pass;
+  refused : l.walk.refused ≡ l.fn.walk.refused;
+  on : (more : ℕ) (after : Waiting) (end : Trail) → more + l._piece ≡ 16 → Mends (first_of l.index) (number_of l.fn.pass) more l.waiting after (trail l.pass) end
+      → Mends (first_of l.index) (number_of l.fn.pass) 16 l.fn.waiting after (trail l.fn.pass) end;
+}
