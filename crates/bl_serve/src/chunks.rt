@@ -394,6 +394,7 @@ fn answer_at<'a, R: Threads + Wait + Sync, G: Gate + Sync, I: Read>(
         changes,
         text,
     };
+    let worked = work_chunk(rt, service, index, crew, lines, reader, ahead)?;
     let Crew {
         plan,
         handles,
@@ -402,7 +403,7 @@ fn answer_at<'a, R: Threads + Wait + Sync, G: Gate + Sync, I: Read>(
         remarks,
         changes,
         text,
-    } = work_chunk(rt, service, index, crew, lines, reader, ahead)?;
+    } = worked;
     let free = free_by(handles.as_slice());
     give_seats(handles, &mut passes);
     Ok(Session {
@@ -443,5 +444,6 @@ pub fn run_chunk<'a, R: Threads + Wait + Sync, G: Gate + Sync, I: Read>(
     // The law by which what was noted leads from map to map.
     histories_lead();
     let session = with_room(service.alloc, session, lines)?;
-    answer_at(rt, service, session, lines, reader, ahead)
+    let back = answer_at(rt, service, session, lines, reader, ahead)?;
+    Ok(back)
 }
