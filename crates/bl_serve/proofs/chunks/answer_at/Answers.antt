@@ -25,7 +25,7 @@ invariant_of-crew g c =
     record { some = omega (arith, same, long, a, d, e); paired = omega (arith, same, long, b, d, e); counted = c.args.session.counted; synced = c.args.session.synced }
 
 pub work_chunk-requires-clause-met : goal.work_chunk-requires-clause-met
-work_chunk-requires-clause-met g c =
+work_chunk-requires-clause-met g c κs within =
     let seats = their_seats c.index-index.result.now c.args.session.passes.items c.in_ok-handles.handles.items c.in_ok-handles.ensures.over in
     subst (λ (z : Index × List Pass). AreTogether z.0 (seen_by z.1) z.1) (λ i. (sym c.index-index.ensures i, sym seats i)) c.requires.rests.together
 

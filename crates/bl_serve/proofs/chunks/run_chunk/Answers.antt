@@ -7,7 +7,7 @@ use Rattle.bl_serve.proofs.Standing.{rests_on}
 use Rattle.bl_serve.proofs.chunks.run_chunk.Goals as goal
 
 pub answer_at-requires-clause-rests : goal.answer_at-requires-clause-rests
-answer_at-requires-clause-rests g c = rests_on c.args.session.ground c.args.session.passes.items c.in_ok-session.session.ground c.in_ok-session.session.passes.items c.requires.rests c.in_ok-session.ensures.resettles
+answer_at-requires-clause-rests g c κs within = rests_on c.args.session.ground c.args.session.passes.items c.in_ok-session.session.ground c.in_ok-session.session.passes.items c.requires.rests c.in_ok-session.ensures.resettles
 
 pub returns-clause-held : goal.returns-clause-held
 returns-clause-held g c =
