@@ -27,24 +27,20 @@
  *      Else: as above.
  *   5. malloc, realloc and free come from one allocator, which aligns to 16 bytes. No
  *      function is called from a signal handler, nor in the child of a fork of a program
- *      with threads; there only those that read keys and rows, by a seat that was in no
- *      call, where no seat was in a call that writes: these allocate nothing (tested).
+ *      with threads, but for those that look keys and rows up, by a seat that was in no
+ *      call, where no other thread was in a call that writes: they allocate nothing, but
+ *      for blink_range (tested).
  *      Else: the heap's own faults.
  *   6. All seats of one call are of one map: those of blink_try_meet and of
  *      blink_try_close_image. (blink_meet and blink_close_image look first, and answer
  *      BLINK_OTHER_MAP.)
  *      Else: the program reads and writes memory at random.
- *   7. A thread that was told BLINK_AGAIN makes some further call of its seat before
- *      long, be it blink_close. (blink_find and the others do.)
- *      Else: nothing is damaged. A change or a merge that was begun latches no page
- *      meanwhile, but one page may stay latched where a split is listed or a top level is
- *      taken away. What others swap out is held back, and they are told BLINK_AGAIN or
- *      BLINK_NO_ROOM.
  *
- * A seat whose thread has died may be closed by another thread, as any seat may go to
- * another one: blink_close then ends what was left underway. A thread that dies inside of
- * a call takes its seat with it: the seat reads as closed (with the guard below: as in a
- * call), and what that call held stays held. So do not cancel threads inside of calls.
+ * Between two calls nothing of a seat is underway: it holds no page, and keeps nobody
+ * waiting. So a seat may lie idle, and one whose thread has died may be closed by another
+ * thread. A thread that dies inside of a call takes its seat with it: the seat reads as
+ * closed (with the guard below: as in a call), and what that call held stays held. So do
+ * not cancel threads inside of calls.
  *
  * With -DBLINK_GUARD the inline functions look at rules 1 to 3 as far as a seat shows it:
  * a null pointer for a seat, a call of a seat that is in a call, and a call of a closed
@@ -53,7 +49,7 @@
  * blink_find, and each other function for which there is one with `try` in its name,
  * makes that call again until it is answered. It is inline here, and the library has it
  * under the same name too, for other languages. Each call writes to its seat, even
- * blink_waiting, so none takes a const one.
+ * blink_stat, so none takes a const one.
  */
 #ifndef BLINK_H
 #define BLINK_H
@@ -99,7 +95,7 @@ enum {
     BLINK_ABSENT = 1,      /* the key is not there */
     BLINK_PRESENT = 2,     /* the key was there; which value is written stands there */
     BLINK_NO_ROOM = 3,     /* no free page or frame; nothing has changed */
-    BLINK_AGAIN = 4,       /* no answer yet: let another thread run and call again */
+    BLINK_AGAIN = 4,       /* not done: let another thread run and call again */
     BLINK_BAD_PAGES = 5,   /* the number of pages is not 4 to 2^28 */
     BLINK_BAD_SEATS = 6,   /* the number of seats is not 1 to 64 */
     BLINK_NO_MEMORY = 7,   /* malloc refused; nothing has changed */
@@ -148,20 +144,15 @@ typedef struct blink_part {
 
 /* How full a map is, and what one of its seats has left to do. */
 typedef struct blink_stats {
-    uint64_t pages;      /* how many pages the map has */
-    uint64_t free_pages; /* how many of them are free, about: others take and free some */
-    uint64_t waiting;    /* as blink_waiting */
-    uint64_t dropped;    /* as blink_dropped */
-} blink_stats;
-
-/* How many pages and frames a map has, and how many of them are in use and free. */
-typedef struct blink_room {
     uint64_t pages;       /* how many pages the map has */
-    uint64_t used_pages;  /* how many of them are in use */
-    uint64_t free_pages;  /* how many are free; those between wait for calls that run */
+    uint64_t free_pages;  /* how many of them are free */
+    uint64_t used_pages;  /* how many are in use; those between wait for calls that run */
     uint64_t frames;      /* how many frames the map has, which hold the words of pages */
     uint64_t free_frames; /* how many of them are free */
-} blink_room;
+    uint64_t waiting;     /* how many pieces of upkeep of the seat wait, 0 to 32 */
+    uint64_t dropped;     /* how many were dropped since it was opened, since 32 waited:
+                             that costs speed, never answers */
+} blink_stats;
 
 /* ---- Opening and closing. ---- */
 
@@ -196,10 +187,9 @@ int32_t blink_open_image(const uint8_t *bytes, size_t length, blink_seat *seats,
 int32_t blink_open_larger(const uint8_t *bytes, size_t length, uint32_t pages,
                           blink_seat *seats, size_t count);
 
-/* Closes a seat, and leaves it all zeros. What was underway at it is ended first, so a
- * write that was told BLINK_AGAIN may take effect. A map goes with its last seat, and its
- * rows with it: for an image all seats are closed together, by blink_close_image.
- *   BLINK_OK          it is closed; it holds no page, and nothing is underway at it
+/* Closes a seat, and leaves it all zeros. A map goes with its last seat, and its rows
+ * with it: for an image all seats are closed together, by blink_close_image.
+ *   BLINK_OK          it is closed
  *   BLINK_CLOSED      it was closed already */
 BLINK_INLINE int32_t blink_close(blink_seat *seat);
 
@@ -461,27 +451,14 @@ BLINK_INLINE int32_t blink_upkeep(blink_seat *seat, uint32_t most);
  *   BLINK_CLOSED      the seat is closed */
 BLINK_INLINE int32_t blink_upkeep_all(blink_seat *seat);
 
-/* How many pieces of upkeep of this seat wait, 0 to 32. Later calls do them. A closed
- * seat has 0. */
-uint32_t blink_waiting(blink_seat *seat);
-
-/* How many pieces were dropped since the seat was opened, since 32 waited. That is no
- * error: it costs speed, never answers. A closed seat has 0. */
-uint64_t blink_dropped(blink_seat *seat);
-
 /* Says how full the map is, and what the seat has left to do. It is no call of the map,
- * and changes nothing. But for the free pages, which are counted while others work, the
- * numbers are exact.
+ * and changes nothing. Without a look it takes no time: the free pages are counted while
+ * others take and free some, and `used_pages`, `frames` and `free_frames` are as they
+ * were. To look it goes over each page and each frame, which takes time with their
+ * number; what it counts is exact where no other seat is in a call.
  *   BLINK_OK          `*stats` says so
  *   BLINK_CLOSED      the seat is closed; `*stats` is as it was */
-int32_t blink_stat(blink_seat *seat, blink_stats *stats);
-
-/* Looks at each page and each frame of the map, which takes time with their number, and
- * says how many are in use and free. It is no call of the map, and changes nothing. The
- * numbers are exact where no other seat is in a call.
- *   BLINK_OK          `*room` says so
- *   BLINK_CLOSED      the seat is closed; `*room` is as it was */
-int32_t blink_room_of(blink_seat *seat, blink_room *room);
+int32_t blink_stat(blink_seat *seat, bool look, blink_stats *stats);
 
 /* ---- Two seats. ---- */
 
@@ -492,11 +469,11 @@ int32_t blink_room_of(blink_seat *seat, blink_room *room);
  *   BLINK_CLOSED      one of them is closed */
 BLINK_INLINE int32_t blink_meet(blink_seat *one, blink_seat *two);
 
-/* A place in the memory of the seat's map, by whose address two maps that are open are
- * told apart: it is not to be read.
- *   BLINK_OK          `*place` is that place
- *   BLINK_CLOSED      the seat is closed; `*place` is as it was */
-int32_t blink_map(blink_seat *seat, const uint32_t **place);
+/* Whether the two are seats of one map. A seat is of the map that it is of itself.
+ *   BLINK_OK          they are of one map
+ *   BLINK_OTHER_MAP   they are of two maps
+ *   BLINK_CLOSED      one of them is closed */
+BLINK_INLINE int32_t blink_same_map(blink_seat *one, blink_seat *two);
 
 /* ---- What this is. ---- */
 
@@ -511,75 +488,75 @@ const char *blink_version(void);
 /* ---- Calls that come back at once. ---- */
 
 /* What the functions above call. None of these waits, and no guard looks at their rules.
- * Told BLINK_AGAIN, a page is latched by another thread, others hold back what was
- * replaced, or put pages while a search reads: let another thread run and make the same
- * call again. A write that was told BLINK_AGAIN is underway; the next call of the seat,
- * whatever it is, goes on with it first, so a caller who makes another call does not
- * learn whether it takes effect. */
+ * Told BLINK_AGAIN, a call has not been done, and nothing of it is left: a page is
+ * latched by another thread, others hold back what was replaced, or put pages while a
+ * search reads. Let another thread run and make it again, or give it up. */
 
-/* Closes a seat, which settles first.
- *   BLINK_OK          it is closed; it holds no page, and nothing is underway at it
- *   BLINK_AGAIN       something is underway at it, and it is open still
- *   BLINK_CLOSED      it was closed already */
+/* Closes a seat, as blink_close.
+ *   BLINK_OK, BLINK_CLOSED  as there */
 int32_t blink_try_close(blink_seat *seat);
 
 /* Looks a key up, as blink_find.
  *   BLINK_OK, BLINK_ABSENT, BLINK_CLOSED  as there
- *   BLINK_AGAIN       no answer yet: nothing of the search is left underway */
+ *   BLINK_AGAIN       not done */
 int32_t blink_try_find(blink_seat *seat, uint64_t key, uint64_t *value);
 
 /* Puts a value, as blink_insert.
  *   BLINK_OK, BLINK_PRESENT, BLINK_NO_ROOM, BLINK_CLOSED  as there
- *   BLINK_AGAIN       no answer yet: it may take effect later */
+ *   BLINK_AGAIN       not done, and nothing of it is left */
 int32_t blink_try_insert(blink_seat *seat, uint64_t key, uint64_t value, uint64_t *there);
 
 /* Puts a value in place of what is there, as blink_put.
  *   BLINK_OK, BLINK_PRESENT, BLINK_NO_ROOM, BLINK_CLOSED  as there
- *   BLINK_AGAIN       no answer yet: it may take effect later */
+ *   BLINK_AGAIN       not done, and nothing of it is left */
 int32_t blink_try_put(blink_seat *seat, uint64_t key, uint64_t value, uint64_t *old);
 
 /* Takes a key away, as blink_delete.
  *   BLINK_OK, BLINK_ABSENT, BLINK_NO_ROOM, BLINK_CLOSED  as there
- *   BLINK_AGAIN       no answer yet: it may take effect later */
+ *   BLINK_AGAIN       not done, and nothing of it is left */
 int32_t blink_try_delete(blink_seat *seat, uint64_t key, uint64_t *gone);
 
 /* Changes a value, as blink_change.
  *   BLINK_OK, BLINK_PRESENT, BLINK_ABSENT, BLINK_NO_ROOM, BLINK_CLOSED  as there
- *   BLINK_AGAIN       no answer yet: it may take effect later */
+ *   BLINK_AGAIN       not done, and nothing of it is left */
 int32_t blink_try_change(blink_seat *seat, uint64_t key, uint64_t old_value,
                          uint64_t new_value, uint64_t *there);
 
 /* The rows of one leaf, as blink_rows.
  *   BLINK_OK, BLINK_FEW_ROWS, BLINK_CLOSED  as there
- *   BLINK_AGAIN       no answer yet: nothing is written */
+ *   BLINK_AGAIN       not done: nothing is written */
 int32_t blink_try_rows(blink_seat *seat, uint64_t from, blink_row *rows, size_t room,
                        blink_part *part);
 
 /* The same downwards, as blink_rows_down.
  *   BLINK_OK, BLINK_FEW_ROWS, BLINK_CLOSED  as there
- *   BLINK_AGAIN       no answer yet: nothing is written */
+ *   BLINK_AGAIN       not done: nothing is written */
 int32_t blink_try_rows_down(blink_seat *seat, uint64_t from, blink_row *rows, size_t room,
                             blink_part *part);
 
 /* The rows of one moment, as blink_range.
  *   BLINK_OK, BLINK_FEW_ROWS, BLINK_UNSTEADY, BLINK_NO_MEMORY, BLINK_CLOSED  as there
- *   BLINK_AGAIN       no answer yet: nothing is written */
+ *   BLINK_AGAIN       not done: nothing is written */
 int32_t blink_try_range(blink_seat *seat, uint64_t from, uint64_t last, uint32_t rounds,
                         blink_row *rows, size_t room, uint64_t *count);
 
 /* Upkeep, as blink_upkeep, which is this call behind the guard.
  *   BLINK_OK, BLINK_AGAIN, BLINK_CLOSED  as there */
-int32_t blink_tend(blink_seat *seat, uint32_t most);
+int32_t blink_try_upkeep(blink_seat *seat, uint32_t most);
 
 /* Two seats meet, as by blink_meet. Both are of one map, and are two seats.
- *   BLINK_OK, BLINK_CLOSED  as there
- *   BLINK_AGAIN       something is underway at one of them */
+ *   BLINK_OK, BLINK_CLOSED  as there */
 int32_t blink_try_meet(blink_seat *one, blink_seat *two);
+
+/* A place in the memory of the seat's map, whose address blink_same_map compares: it is
+ * not to be read. Maps that are open have places of their own.
+ *   BLINK_OK          `*place` is that place
+ *   BLINK_CLOSED      the seat is closed; `*place` is as it was */
+int32_t blink_place(blink_seat *seat, const uint32_t **place);
 
 /* Closes a map, as blink_close_image. All seats are of one map.
  *   BLINK_OK, BLINK_CLOSED, BLINK_SEATS_OPEN, BLINK_FEW_BYTES  as there
- *   BLINK_NO_MEMORY, BLINK_SEATS_LOST  as there
- *   BLINK_AGAIN       something is underway at one of them, and all are open still */
+ *   BLINK_NO_MEMORY, BLINK_SEATS_LOST  as there */
 int32_t blink_try_close_image(blink_seat *seats, size_t count, uint8_t *bytes,
                               size_t room, uint64_t *length);
 
@@ -614,8 +591,8 @@ static inline void blink_leave_(blink_seat *seat, const blink_seat *mine) {
     __atomic_store_n(&seat->at, mine->at, __ATOMIC_SEQ_CST);
 }
 #else
-#define blink_take_(seat, room, call) ((void)(room), (seat))
-#define blink_enter_(seat, room, call) ((void)(room), (seat))
+#define blink_take_(seat, room, call) ((void)(room), (void)(call), (seat))
+#define blink_enter_(seat, room, call) ((void)(room), (void)(call), (seat))
 #define blink_leave_(seat, mine) ((void)(seat), (void)(mine))
 #endif
 
@@ -628,33 +605,25 @@ static inline void blink_leave_(blink_seat *seat, const blink_seat *mine) {
         blink_leave_(seat, mine_);                                                      \
     } while (0)
 
-/* Does what makes one try of a call and sets `answer_`, until there is an answer, and
- * returns it. Between two tries other threads run. */
-#define BLINK_RETURN_ANSWER_(one_try)                                                   \
+/* Makes a call of one seat until there is an answer, and returns that. Between two tries
+ * other threads run. */
+#define BLINK_RETURN_CALL_(seat, call, ...)                                             \
     for (;;) {                                                                          \
         int32_t answer_;                                                                \
-        one_try;                                                                        \
+        BLINK_CALL_(seat, call, answer_, __VA_ARGS__);                                  \
         if (answer_ != BLINK_AGAIN) return answer_;                                     \
         BLINK_YIELD();                                                                  \
     }
 
-/* The same of a call of one seat. */
-#define BLINK_RETURN_CALL_(seat, call, ...)                                             \
-    BLINK_RETURN_ANSWER_(BLINK_CALL_(seat, call, answer_, __VA_ARGS__))
-
 /* ---- Bodies. ---- */
 
 /* A seat that is closed already passes the guard. */
-static inline int32_t blink_close_once_(blink_seat *seat) {
+BLINK_INLINE int32_t blink_close(blink_seat *seat) {
     blink_seat room = BLINK_SEAT_INIT;
     blink_seat *mine = blink_take_(seat, &room, "blink_close");
     int32_t answer = blink_try_close(mine);
     blink_leave_(seat, mine);
     return answer;
-}
-
-BLINK_INLINE int32_t blink_close(blink_seat *seat) {
-    BLINK_RETURN_ANSWER_(answer_ = blink_close_once_(seat))
 }
 
 BLINK_INLINE int32_t blink_find(blink_seat *seat, uint64_t key, uint64_t *value) {
@@ -850,13 +819,13 @@ BLINK_INLINE int32_t blink_count(blink_seat *seat, uint64_t from, uint64_t last,
 BLINK_INLINE int32_t blink_save(blink_seat *seat, uint32_t fill, blink_row *rows,
                                 size_t most, uint8_t *bytes, size_t room,
                                 uint64_t *length) {
-    blink_stats stats = { 0, 0, 0, 0 };
+    blink_stats stats = { 0, 0, 0, 0, 0, 0, 0 };
     blink_row behind;
     size_t count = 0, left = 0;
     uint64_t next = 0;
     bool more = true;
     int32_t answer;
-    BLINK_CALL_(seat, blink_stat, answer, &stats);
+    BLINK_CALL_(seat, blink_stat, answer, false, &stats);
     if (answer == BLINK_OK && most > 0)
         answer = blink_scan(seat, 0, rows, most, &count, &next, &more);
     if (answer == BLINK_OK && more)
@@ -868,7 +837,7 @@ BLINK_INLINE int32_t blink_save(blink_seat *seat, uint32_t fill, blink_row *rows
 
 BLINK_INLINE int32_t blink_upkeep(blink_seat *seat, uint32_t most) {
     int32_t answer;
-    BLINK_CALL_(seat, blink_tend, answer, most);
+    BLINK_CALL_(seat, blink_try_upkeep, answer, most);
     return answer;
 }
 
@@ -883,63 +852,51 @@ BLINK_INLINE int32_t blink_upkeep_all(blink_seat *seat) {
     return answer;
 }
 
-/* Whether two seats are of one map: BLINK_OK, BLINK_OTHER_MAP, BLINK_CLOSED. */
-static inline int32_t blink_same_map_(blink_seat *one, blink_seat *two) {
-    const uint32_t *place = NULL, *other = NULL;
-    int32_t answer = blink_map(one, &place);
-    if (answer == BLINK_OK) answer = blink_map(two, &other);
-    return answer == BLINK_OK && place != other ? BLINK_OTHER_MAP : answer;
-}
-
-static inline int32_t blink_meet_once_(blink_seat *one, blink_seat *two) {
+/* A call of two seats of one map, if there is one; of one that is handed in twice only
+ * whether it is open. */
+static inline int32_t blink_together_(blink_seat *one, blink_seat *two, const char *call,
+                                      int32_t (*calls)(blink_seat *, blink_seat *)) {
     blink_seat rooms[2] = { BLINK_SEAT_INIT, BLINK_SEAT_INIT };
-    blink_seat *mine = blink_enter_(one, &rooms[0], "blink_meet");
-    blink_seat *theirs = blink_enter_(two, &rooms[1], "blink_meet");
-    int32_t answer = blink_same_map_(mine, theirs);
-    if (answer == BLINK_OK) answer = blink_try_meet(mine, theirs);
+    blink_seat *mine = blink_enter_(one, &rooms[0], call);
+    const uint32_t *place = NULL, *other = NULL;
+    int32_t answer = blink_place(mine, &place);
+    if (one != two) {
+        blink_seat *theirs = blink_enter_(two, &rooms[1], call);
+        if (answer == BLINK_OK) answer = blink_place(theirs, &other);
+        if (answer == BLINK_OK && place != other) answer = BLINK_OTHER_MAP;
+        if (answer == BLINK_OK && calls) answer = calls(mine, theirs);
+        blink_leave_(two, theirs);
+    }
     blink_leave_(one, mine);
-    blink_leave_(two, theirs);
     return answer;
 }
 
-BLINK_INLINE int32_t blink_meet(blink_seat *one, blink_seat *two) {
-    const uint32_t *place = NULL;
-    if (one == two) {
-        int32_t answer;
-        BLINK_CALL_(one, blink_map, answer, &place);
-        return answer;
-    }
-    BLINK_RETURN_ANSWER_(answer_ = blink_meet_once_(one, two))
+BLINK_INLINE int32_t blink_same_map(blink_seat *one, blink_seat *two) {
+    return blink_together_(one, two, "blink_same_map", NULL);
 }
 
-static inline int32_t blink_close_image_once_(blink_seat *seats, size_t count,
-                                              uint8_t *bytes, size_t room,
-                                              uint64_t *length) {
+BLINK_INLINE int32_t blink_meet(blink_seat *one, blink_seat *two) {
+    return blink_together_(one, two, "blink_meet", blink_try_meet);
+}
+
+BLINK_INLINE int32_t blink_close_image(blink_seat *seats, size_t count, uint8_t *bytes,
+                                       size_t room, uint64_t *length) {
     size_t i;
+    /* The call takes the array, so the guard looks at each seat, and leaves it there. */
     for (i = 0; i < count; i++) {
-        /* The call takes the array, so the guard looks at a seat, and leaves it there. */
-        blink_seat kept = BLINK_SEAT_INIT;
-        int32_t answer;
-        blink_leave_(&seats[i], blink_enter_(&seats[i], &kept, "blink_close_image"));
-        answer = blink_same_map_(&seats[0], &seats[i]);
+        int32_t answer = blink_together_(&seats[0], &seats[i], "blink_close_image", NULL);
         if (answer != BLINK_OK) return answer;
     }
     return blink_try_close_image(seats, count, bytes, room, length);
 }
 
-BLINK_INLINE int32_t blink_close_image(blink_seat *seats, size_t count, uint8_t *bytes,
-                                       size_t room, uint64_t *length) {
-    BLINK_RETURN_ANSWER_(
-        answer_ = blink_close_image_once_(seats, count, bytes, room, length))
-}
-
 BLINK_INLINE int32_t blink_is_short(blink_seat *seat, bool *is_short) {
-    blink_stats stats = { 0, 0, 0, 0 };
+    blink_stats stats = { 0, 0, 0, 0, 0, 0, 0 };
     uint64_t looks;
     /* Each piece of upkeep looks at some pages alone: so many look at all. */
     for (looks = 0; looks <= stats.pages / 16; looks++) {
         int32_t answer;
-        BLINK_CALL_(seat, blink_stat, answer, &stats);
+        BLINK_CALL_(seat, blink_stat, answer, false, &stats);
         if (answer != BLINK_OK) return answer;
         *is_short = stats.free_pages < stats.pages / 16 + 16;
         if (!*is_short) return BLINK_OK;
@@ -950,11 +907,11 @@ BLINK_INLINE int32_t blink_is_short(blink_seat *seat, bool *is_short) {
 
 BLINK_INLINE int32_t blink_resize(blink_seat *seats, size_t count, uint32_t pages,
                                   uint8_t *bytes, size_t room, uint64_t *length) {
-    blink_stats stats = { 0, 0, 0, 0 };
+    blink_stats stats = { 0, 0, 0, 0, 0, 0, 0 };
     int32_t answer;
     *length = 0;
     if (count == 0) return BLINK_SEATS_OPEN;
-    BLINK_CALL_(&seats[0], blink_stat, answer, &stats);
+    BLINK_CALL_(&seats[0], blink_stat, answer, false, &stats);
     if (answer != BLINK_OK) return answer;
     if (pages < stats.pages || pages > (uint32_t)1 << 28) return BLINK_BAD_PAGES;
     answer = blink_close_image(seats, count, bytes, room, length);
@@ -972,7 +929,7 @@ BLINK_INLINE const char *blink_text(int32_t code) {
         case BLINK_ABSENT: return "the key is not there";
         case BLINK_PRESENT: return "the key was there with a value";
         case BLINK_NO_ROOM: return "no room";
-        case BLINK_AGAIN: return "not answered yet";
+        case BLINK_AGAIN: return "not done: call again";
         case BLINK_BAD_PAGES: return "the number of pages is not 4 to 2^28";
         case BLINK_BAD_SEATS: return "the number of seats is not 1 to 64";
         case BLINK_NO_MEMORY: return "there is no memory";

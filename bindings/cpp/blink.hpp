@@ -405,13 +405,13 @@ public:
         return code == BLINK_OK;
     }
 
-    // How many pages and frames the map has, in use and free, by a look at each: exact
-    // where no other handle is in a call.
-    blink_room room() {
-        blink_room room{};
-        const int32_t code = blink_room_of(&seat_, &room);
+    // How many pages and frames the map has, in use and free, by a look at each, and what
+    // upkeep this handle has left to do: exact where no other handle is in a call.
+    blink_stats stats() {
+        blink_stats stats{};
+        const int32_t code = blink_stat(&seat_, true, &stats);
         if (code != BLINK_OK) detail::refuse(code);
-        return room;
+        return stats;
     }
 
 private:
@@ -483,7 +483,7 @@ public:
         auto &seats = *map.seats_;
         opened(blink_open_image(image.data(), image.size(), seats.free.data(), handles));
         blink_stats stats{};
-        opened(blink_stat(seats.free.data(), &stats));
+        opened(blink_stat(seats.free.data(), false, &stats));
         seats.pages = static_cast<uint32_t>(stats.pages);
         return map;
     }

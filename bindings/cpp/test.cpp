@@ -224,8 +224,9 @@ static void edges() {
         CHECK(handle.find(5) == 3 && handle.erase(5) == 3);
         CHECK(handle.upkeep(10));
         // The anchor and one leaf; two frames for each page, and eight for the handle.
-        const blink_room room = handle.room();
-        CHECK(room.pages == 16 && room.used_pages == 2 && room.free_pages == 14 && room.frames == 40);
+        const blink_stats stats = handle.stats();
+        CHECK(stats.pages == 16 && stats.used_pages == 2 && stats.free_pages == 14 && stats.frames == 40);
+        CHECK(stats.waiting == 0 && stats.dropped == 0);
         CHECK(refused_close(map) == BLINK_SEATS_OPEN);
     }
     map.close_image();

@@ -1,7 +1,7 @@
-/* What becomes of a map when seats are closed in the middle of things: closing finish|leave|others [ROUNDS]. Seven threads write the same
- * keys, and each goes once it was told BLINK_AGAIN: with `finish` it makes the same call again before, and closes its seat; with `leave` it
- * closes its seat at once; with `others` it ends, and another thread closes its seat, as that of a thread that has died. Then the seat
- * that is left makes 2,000 changes, and each has to be done.
+/* What becomes of a map when seats are left or closed in the middle of things: closing finish|leave|others|idle [ROUNDS]. Seven threads write
+ * the same keys, and each goes once it was told BLINK_AGAIN: with `finish` it makes the same call again before, and closes its seat; with
+ * `leave` it closes its seat at once; with `others` it ends, and another thread closes its seat, as that of a thread that has died; with
+ * `idle` nobody does before the end. Then the seat that is left makes 2,000 changes, and each has to be done.
  *
  * closing orders: the seats of a map with rows, and with upkeep that waits, are closed in each order, some by an image, some twice; a map that
  * is to be opened in their places is refused. Under valgrind it shows whether anything is lost. */
@@ -13,12 +13,7 @@
 #include <string.h>
 
 enum { SEATS = 8, PAGES = 64, CHANGES = 2000, IN_ORDER = 4, ROWS = 200 };
-enum way { FINISH, LEAVE, OTHERS };
-
-typedef struct writer {
-    blink_seat *seat;
-    bool has_ended; /* set by the thread, read by the main thread */
-} writer;
+enum way { FINISH, LEAVE, OTHERS, IDLE };
 
 static blink_seat seats[SEATS];
 static enum way way;
@@ -37,33 +32,16 @@ static int32_t write_key(blink_seat *seat, int round) {
 
 /* Writes until it was told BLINK_AGAIN, and then goes. */
 static void *work(void *place) {
-    writer *me = place;
+    blink_seat *seat = place;
     int round;
     for (round = 0; round < 200000; round++) {
-        if (write_key(me->seat, round) != BLINK_AGAIN) continue;
+        if (write_key(seat, round) != BLINK_AGAIN) continue;
         __atomic_add_fetch(&told_again, 1, __ATOMIC_SEQ_CST);
-        while (way == FINISH && write_key(me->seat, round) == BLINK_AGAIN) BLINK_YIELD();
+        while (way == FINISH && write_key(seat, round) == BLINK_AGAIN) BLINK_YIELD();
         break;
     }
-    if (way != OTHERS) need(blink_close(me->seat), BLINK_OK, "close");
-    __atomic_store_n(&me->has_ended, true, __ATOMIC_SEQ_CST);
+    if (way < OTHERS) need(blink_close(seat), BLINK_OK, "close");
     return NULL;
-}
-
-/* Joins the threads in the order in which they end, and closes what they have left: until then it may hold the others up. */
-static void join_all(writer *writers, pthread_t *threads) {
-    bool is_joined[SEATS] = {false};
-    int left = SEATS - 1, i;
-    while (left > 0) {
-        for (i = 1; i < SEATS; i++) {
-            if (is_joined[i] || !__atomic_load_n(&writers[i].has_ended, __ATOMIC_SEQ_CST)) continue;
-            pthread_join(threads[i], NULL);
-            need(blink_close(&seats[i]), way == OTHERS ? BLINK_OK : BLINK_CLOSED, "close of a seat whose thread has ended");
-            is_joined[i] = true;
-            left--;
-        }
-        BLINK_YIELD();
-    }
 }
 
 /* One seat alone inserts and deletes a key. Nobody is there who could hold it up. */
@@ -79,22 +57,26 @@ static void change(void) {
     }
 }
 
+/* Closes the seats but the first one, which the threads have closed already or not. */
+static void close_others(void) {
+    int i;
+    for (i = 1; i < SEATS; i++) need(blink_close(&seats[i]), way >= OTHERS ? BLINK_OK : BLINK_CLOSED, "close of a seat whose thread has ended");
+}
+
 static void run_threads(int rounds) {
-    writer writers[SEATS];
     pthread_t threads[SEATS];
     int round, i;
     for (round = 0; round < rounds; round++) {
         need(blink_open(PAGES, seats, SEATS), BLINK_OK, "open");
-        for (i = 1; i < SEATS; i++) {
-            writers[i].seat = &seats[i];
-            writers[i].has_ended = false;
-            if (pthread_create(&threads[i], NULL, work, &writers[i])) exit(2);
-        }
-        join_all(writers, threads);
+        for (i = 1; i < SEATS; i++)
+            if (pthread_create(&threads[i], NULL, work, &seats[i])) exit(2);
+        for (i = 1; i < SEATS; i++) pthread_join(threads[i], NULL);
+        if (way != IDLE) close_others();
         change();
+        if (way == IDLE) close_others();
         need(blink_close(&seats[0]), BLINK_OK, "close of the last seat");
     }
-    printf("%d seats closed after BLINK_AGAIN; then %d changes, all done\n", told_again, rounds * CHANGES);
+    printf("%d seats told BLINK_AGAIN; then %d changes, all done\n", told_again, rounds * CHANGES);
 }
 
 /* A map of four seats, each of which has inserted rows and deleted most of them. */
@@ -154,10 +136,10 @@ static void close_by_image(void) {
 }
 
 int main(int count, char **words) {
-    static const char *const ways[] = {"finish", "leave", "others"};
+    static const char *const ways[] = {"finish", "leave", "others", "idle"};
     int order[IN_ORDER] = {0, 1, 2, 3};
     if (count < 2) return 2;
-    for (way = FINISH; way <= OTHERS; way++) {
+    for (way = FINISH; way <= IDLE; way++) {
         if (strcmp(words[1], ways[way])) continue;
         run_threads(count > 2 ? atoi(words[2]) : 10);
         return 0;

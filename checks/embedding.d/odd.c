@@ -85,8 +85,9 @@ static void opened_twice(void) {
 
 static void closed(void) {
     blink_part part = {0, 0, true, 0};
-    blink_stats stats = {1, 2, 3, 4};
-    blink_room room = {1, 2, 3, 4, 5};
+    blink_stats stats = {1, 2, 3, 4, 5, 6, 7};
+    const blink_stats before = stats;
+    const uint32_t *place = NULL;
     static uint8_t bytes[LENGTH];
     size_t found = 9;
     uint64_t next = 9;
@@ -105,17 +106,18 @@ static void closed(void) {
     WANT(blink_scan_to(&seats[0], 5, 4, rows, 64, &found, &next, &more), BLINK_CLOSED);
     WANT(blink_scan_down(&seats[0], 5, rows, 64, &found, &next, &more), BLINK_CLOSED);
     HOLDS(more && found == 0 && next == 5);
-    WANT(blink_tend(&seats[0], 5), BLINK_CLOSED);
+    WANT(blink_try_upkeep(&seats[0], 5), BLINK_CLOSED);
     WANT(blink_upkeep(&seats[0], 5), BLINK_CLOSED);
     WANT(blink_upkeep_all(&seats[0]), BLINK_CLOSED);
     WANT(blink_meet(&seats[0], &seats[0]), BLINK_CLOSED);
     WANT(blink_try_meet(&seats[0], &seats[1]), BLINK_CLOSED);
     WANT(blink_close_image(seats, 1, bytes, sizeof bytes, &length), BLINK_CLOSED);
-    HOLDS(blink_waiting(&seats[0]) == 0 && blink_dropped(&seats[0]) == 0);
-    WANT(blink_stat(&seats[0], &stats), BLINK_CLOSED);
-    HOLDS(stats.pages == 1 && stats.free_pages == 2 && stats.waiting == 3 && stats.dropped == 4);
-    WANT(blink_room_of(&seats[0], &room), BLINK_CLOSED);
-    HOLDS(room.pages == 1 && room.used_pages == 2 && room.free_pages == 3 && room.frames == 4 && room.free_frames == 5);
+    WANT(blink_same_map(&seats[0], &seats[0]), BLINK_CLOSED);
+    WANT(blink_place(&seats[0], &place), BLINK_CLOSED);
+    HOLDS(!place);
+    WANT(blink_stat(&seats[0], false, &stats), BLINK_CLOSED);
+    WANT(blink_stat(&seats[0], true, &stats), BLINK_CLOSED);
+    HOLDS(!memcmp(&stats, &before, sizeof stats));
     WANT(blink_save(&seats[0], 14, rows, 64, bytes, sizeof bytes, &length), BLINK_CLOSED);
     WANT(blink_try_close(&seats[0]), BLINK_CLOSED);
     WANT(blink_close(&seats[0]), BLINK_CLOSED);
@@ -133,8 +135,7 @@ static uint64_t filled(void) {
 }
 
 static void full(uint64_t count) {
-    blink_stats stats = {9, 9, 9, 9};
-    blink_room room = {9, 9, 9, 9, 9};
+    blink_stats stats = {9, 9, 9, 9, 9, 9, 9};
     WANT(blink_insert(&seats[0], 0, 9, &value), BLINK_PRESENT);
     HOLDS(value == 0);
     WANT(blink_change(&seats[0], 0, 0, 5, &value), BLINK_OK);
@@ -149,12 +150,14 @@ static void full(uint64_t count) {
     WANT(blink_delete(&seats[1], 0, &value), BLINK_ABSENT);
     WANT(blink_upkeep(&seats[0], 64), BLINK_OK);
     WANT(blink_upkeep_all(&seats[0]), BLINK_OK);
-    HOLDS(blink_waiting(&seats[0]) == 0);
-    WANT(blink_stat(&seats[0], &stats), BLINK_OK);
-    HOLDS(stats.pages == PAGES && stats.free_pages == 0 && stats.waiting == 0 && stats.dropped == blink_dropped(&seats[0]));
-    WANT(blink_room_of(&seats[0], &room), BLINK_OK);
-    HOLDS(room.pages == PAGES && room.used_pages == PAGES && room.free_pages == 0);
-    HOLDS(room.frames == 2 * PAGES + 8 * 2 && room.free_frames <= room.frames - PAGES);
+    WANT(blink_stat(&seats[0], false, &stats), BLINK_OK);
+    HOLDS(stats.pages == PAGES && stats.free_pages == 0 && stats.waiting == 0 && stats.dropped == 0);
+    HOLDS(stats.used_pages == 9 && stats.frames == 9 && stats.free_frames == 9);
+    WANT(blink_stat(&seats[0], true, &stats), BLINK_OK);
+    HOLDS(stats.pages == PAGES && stats.used_pages == PAGES && stats.free_pages == 0 && stats.waiting == 0);
+    HOLDS(stats.frames == 2 * PAGES + 8 * 2 && stats.free_frames <= stats.frames - PAGES);
+    WANT(blink_same_map(&seats[0], &seats[0]), BLINK_OK);
+    WANT(blink_same_map(&seats[0], &seats[1]), BLINK_OK);
     WANT(blink_meet(&seats[0], &seats[0]), BLINK_OK);
     WANT(blink_meet(&seats[0], &seats[1]), BLINK_OK);
 }
@@ -320,6 +323,7 @@ static void images(void) {
     WANT(blink_open(PAGES, other, 2), BLINK_OK);
     mixed[0] = seats[0];
     mixed[1] = other[0];
+    WANT(blink_same_map(&mixed[0], &mixed[1]), BLINK_OTHER_MAP);
     WANT(blink_meet(&mixed[0], &mixed[1]), BLINK_OTHER_MAP);
     WANT(blink_close_image(mixed, 2, bytes, sizeof bytes, &length), BLINK_OTHER_MAP);
     WANT(blink_close_image(seats, 1, bytes, sizeof bytes, &length), BLINK_SEATS_OPEN);

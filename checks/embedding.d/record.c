@@ -2,12 +2,12 @@
  * record SECONDS PAGES THREADS KEYS CALLS SEED OFTEN. One map after the other is opened, for so many seconds, and one at least. In each of the
  * three rounds of a map so many threads make so many calls each, on few keys: searches, insertions, puts, deletions, changes, and scans of
  * some keys side by side, which tell of each key that they pass; and blink_add and blink_update, of which what they have done is written
- * down, an insertion or a change. One in OFTEN answers BLINK_AGAIN lets a thread give its call up and make
- * another one, which settles the first; with 0 nothing is given up. Behind a round the map is closed to its image, and opened anew from that; but in the third one
- * each thread other than the first gives a write up half-way and goes, and its seat is closed by itself, or by the main thread. The
- * next map has other keys. A line is printed for each call: the thread, the nanoseconds right before the call and right behind it,
- * the key, what was asked, and what was answered; and behind each round the line `round`. What was given up has a thread of its own,
- * and is answered Unknown. At the end it says on standard error how often what has happened. */
+ * down, an insertion or a change. One in OFTEN answers BLINK_AGAIN lets a thread give its call up and make another one; with 0 nothing is
+ * given up. What was given up has not been done, so no line tells of it: had it been, the others would have no order. Behind a round the map is
+ * closed to its image, and opened anew from that; but in the third one each thread other than the first gives a write up half-way and
+ * goes, and its seat lies idle from then on, or is closed by itself, or by the main thread. The next map has other keys. A line is printed for each call:
+ * the thread, the nanoseconds right before the call and right behind it, the key, what was asked, and what was answered; and behind each
+ * round the line `round`. At the end it says on standard error how often what has happened. */
 #include "blink.h"
 
 #include <inttypes.h>
@@ -16,7 +16,7 @@
 #include <stdlib.h>
 #include <time.h>
 
-enum { MOST = 64, SPAN = 24, ROUNDS = 3, UNKNOWN = -1 };
+enum { MOST = 64, SPAN = 24, ROUNDS = 3 };
 enum asked { FIND, INSERT, PUT, DELETE, CHANGE };
 
 typedef struct call {
@@ -30,8 +30,7 @@ typedef struct worker {
     uint64_t drawn, stamp, key, value, given_up;
     call *calls;
     size_t count;
-    call *pending; /* one that was given up, and is not settled */
-    bool has_ended; /* set by the thread, read by the main thread */
+    bool has_left; /* with a write that it gave up */
 } worker;
 
 static worker workers[MOST];
@@ -58,12 +57,6 @@ static uint64_t draw(worker *me, uint64_t limit) {
     return (me->drawn * 0x2545F4914F6CDD1Du >> 33) % limit;
 }
 
-/* What was given up is settled now. */
-static void settle(worker *me) {
-    if (me->pending) me->pending->end = now();
-    me->pending = NULL;
-}
-
 static void list(worker *me, uint64_t first) {
     blink_row rows[SPAN * 2 + BLINK_LEAF_ROWS];
     size_t count = 0, at = 0;
@@ -72,7 +65,6 @@ static void list(worker *me, uint64_t first) {
     int32_t answer = blink_scan(me->seat, first, rows, SPAN * 2 + BLINK_LEAF_ROWS, &count, &next, &more);
     if (answer != BLINK_OK) fail("scan", answer);
     end = now();
-    settle(me);
     if (more && next <= last) last = next - 1;
     if (last >= first_key + keys) last = first_key + keys - 1;
     for (uint64_t key = first; key <= last; key++) {
@@ -101,10 +93,11 @@ static bool is_to_go(const worker *me) {
     return round_of_map == ROUNDS - 1 && me != workers && me->count > calls_each / 2;
 }
 
-/* Whether a call that was told BLINK_AGAIN is given up. One at a time, so that a thread ends behind a call that settles it. */
+/* Whether a call that was told BLINK_AGAIN is given up. */
 static bool gives_up(worker *me, const call *it) {
-    if (often == 0 || me->pending || me->count >= calls_each) return false;
-    return (it->asked != FIND && is_to_go(me)) || draw(me, often) == 0;
+    if (often == 0) return false;
+    if (it->asked != FIND && is_to_go(me)) me->has_left = true;
+    return me->has_left || draw(me, often) == 0;
 }
 
 /* Makes a call until it is answered or given up. */
@@ -112,17 +105,13 @@ static void make(worker *me, call *it) {
     it->begin = now();
     while ((it->answer = try_call(me, it)) == BLINK_AGAIN) {
         if (gives_up(me, it)) {
-            it->answer = UNKNOWN;
             me->given_up++;
-            /* A search leaves nothing behind, and has nothing to tell. */
-            if (it->asked == FIND) me->count--;
-            else me->pending = it;
+            me->count--;
             return;
         }
         BLINK_YIELD();
     }
     it->end = now();
-    settle(me);
     if ((it->answer == BLINK_PRESENT && it->asked != PUT) || (it->asked == FIND && it->answer == BLINK_OK)) {
         me->key = it->key;
         me->value = it->value;
@@ -141,17 +130,23 @@ static void make_of_several(worker *me, call *it, bool is_adding) {
     it->answer = is_adding ? blink_add(me->seat, it->key, it->new_value, &now_there) : blink_update(me->seat, it->key, stamped, me, &old, &now_there);
     it->begin = begin;
     it->end = now();
-    settle(me);
     it->asked = is_adding && it->answer == BLINK_OK ? INSERT : it->answer == BLINK_NO_ROOM ? PUT : CHANGE;
     it->old_value = is_adding ? now_there - it->new_value : old;
     it->new_value = now_there;
     if (it->answer == BLINK_PRESENT) it->answer = BLINK_OK;
 }
 
+/* A seat is closed in the middle of a map, by its thread or by another one. */
+static void close_midway(worker *me) {
+    int32_t answer = blink_close(me->seat);
+    if (answer != BLINK_OK) fail("close", answer);
+    __atomic_add_fetch(&closed_midway, 1, __ATOMIC_SEQ_CST);
+}
+
 static void *work(void *place) {
     worker *me = place;
     me->count = 0;
-    while (me->count < calls_each && !(me->pending && is_to_go(me))) {
+    while (me->count < calls_each && !me->has_left) {
         uint64_t key = first_key + draw(me, keys), drawn = draw(me, 100);
         if (drawn < 6) {
             list(me, key);
@@ -169,55 +164,31 @@ static void *work(void *place) {
         }
         make(me, it);
     }
-    if (me->pending && draw(me, 2)) {
-        int32_t answer = blink_close(me->seat);
-        if (answer != BLINK_OK) fail("close", answer);
-        settle(me);
-    }
-    __atomic_store_n(&me->has_ended, true, __ATOMIC_SEQ_CST);
+    if (me->has_left && draw(me, 3) == 0) close_midway(me);
     return NULL;
-}
-
-/* Joins a thread that has ended. Where it has left a call, its seat is closed; only the last round of a map ends so. */
-static void end(worker *me, pthread_t id) {
-    pthread_join(id, NULL);
-    if (me->pending) {
-        int32_t answer = blink_close(me->seat);
-        if (answer != BLINK_OK) fail("close of a thread that has ended", answer);
-        settle(me);
-    }
-    if (!me->seat->at) closed_midway++;
 }
 
 static void run_round(void) {
     pthread_t ids[MOST];
-    bool is_joined[MOST] = {false};
     for (int t = 0; t < threads; t++) {
-        workers[t].has_ended = false;
+        workers[t].has_left = false;
         if (pthread_create(&ids[t], NULL, work, &workers[t])) exit(2);
     }
-    /* In whatever order they end, since one that has left a call holds others up until its seat is closed. */
-    for (int left = threads; left > 0;) {
-        for (int t = 0; t < threads; t++) {
-            if (is_joined[t] || !__atomic_load_n(&workers[t].has_ended, __ATOMIC_SEQ_CST)) continue;
-            end(&workers[t], ids[t]);
-            is_joined[t] = true;
-            left--;
-        }
-        nanosleep(&(struct timespec){0, 200000}, NULL);
+    for (int t = 0; t < threads; t++) {
+        pthread_join(ids[t], NULL);
+        if (workers[t].has_left && workers[t].seat->at && draw(&workers[t], 2)) close_midway(&workers[t]);
     }
 }
 
 static void print(int thread, const call *it) {
     static const char *const done[] = {"Found", "Inserted", "Inserted", "Deleted", "Changed"};
-    printf("%d %" PRIu64 " %" PRIu64 " %" PRIu64 " ", it->answer == UNKNOWN ? MOST + thread : thread, it->begin, it->end, it->key);
+    printf("%d %" PRIu64 " %" PRIu64 " %" PRIu64 " ", thread, it->begin, it->end, it->key);
     if (it->asked == FIND) printf("Find ");
     if (it->asked == INSERT) printf("Insert(%" PRIu64 ") ", it->new_value);
     if (it->asked == PUT) printf("Put(%" PRIu64 ") ", it->new_value);
     if (it->asked == DELETE) printf("Delete ");
     if (it->asked == CHANGE) printf("Change(%" PRIu64 ", %" PRIu64 ") ", it->old_value, it->new_value);
-    if (it->answer == UNKNOWN) printf("Unknown\n");
-    else if (it->answer == BLINK_ABSENT) printf("Absent\n");
+    if (it->answer == BLINK_ABSENT) printf("Absent\n");
     else if (it->answer == BLINK_NO_ROOM) printf("NoRoom\n");
     else if (it->answer == BLINK_PRESENT) printf("%s(%" PRIu64 ")\n", it->asked == INSERT ? "Present" : it->asked == PUT ? "Replaced" : "Differs", it->value);
     else if (it->answer != BLINK_OK) fail("a call", it->answer);

@@ -222,14 +222,14 @@ static void count_rows(Map *map) {
 /* Takes the rows of an image in place of the map's. With any other answer than BLINK_OK nothing has changed. */
 static int32_t take_image(Map *map, const uint8_t *bytes, size_t length) {
     blink_seat fresh[MOST_SEATS] = { BLINK_SEAT_INIT };
-    blink_stats stats = { 0, 0, 0, 0 };
+    blink_stats stats = { 0, 0, 0, 0, 0, 0, 0 };
     int32_t answer = blink_open_image(bytes, length, fresh, map->seats);
     if (answer != BLINK_OK) return answer;
     for (size_t i = 0; i < map->seats; i++) {
         blink_close(&map->seat[i]);
         map->seat[i] = fresh[i];
     }
-    blink_stat(&map->seat[0], &stats);
+    blink_stat(&map->seat[0], false, &stats);
     map->pages = (uint32_t)stats.pages;
     if (map->most < map->pages) map->most = map->pages;
     free(map->kept);
@@ -1330,10 +1330,10 @@ static void count_table(sqlite3_context *context, int count, sqlite3_value **val
 
 static void tell_pages(sqlite3_context *context, sqlite3_value **values, bool are_free) {
     Table *t = named_table(context, values);
-    blink_stats stats = { 0, 0, 0, 0 };
+    blink_stats stats = { 0, 0, 0, 0, 0, 0, 0 };
     int32_t answer;
     if (!t) return;
-    answer = blink_stat(hold(t), &stats);
+    answer = blink_stat(hold(t), false, &stats);
     let_go(t);
     result_answer(context, answer, (sqlite3_int64)(are_free ? stats.free_pages : stats.pages));
 }

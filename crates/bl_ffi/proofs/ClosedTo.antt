@@ -2,7 +2,6 @@
 use Rattle.std.proofs.Common.{ℕ, ◌≡◌, ◌+◌, ◌*◌, ◌<◌, ◌≤◌, ◌++◌, List, length, take, drop, Option, Some, refl, sym, ap, ◌∙◌, subst, inl, inr, arith}
 use Rattle.std.specs.Prelude.{ℤ, pos, slice_get}
 use Rattle.std.specs.Arc.{arc_value}
-use Rattle.std.proofs.lemmas.List.Elements.{length_all_zip}
 use Rattle.std.proofs.Math.Seq.{take-append_seam, drop-append_seam}
 use mir.Val.{to_z, of_z}
 use mir.Syntax.{w32}
@@ -13,7 +12,6 @@ use Rattle.bl_index.specs.declared.index.Index.{Index}
 use Rattle.bl_ffi_seats.specs.declared.closing.CloseFault.{CloseFault}
 use Rattle.bl_ffi_seats.specs.declared.closing.CloseFault.TheVariants as fault
 use Rattle.bl_ffi_seats.specs.declared.seat.Seat.{Seat}
-use Rattle.bl_ffi_seats.specs.Meetings.{HasSettled}
 use Rattle.bl_ffi_seats.specs.Closed.{values, AreAtOne, HaveClosed, IsNotClosed}
 use Rattle.bl_ffi_seats.proofs.Closings.{Boxed, at_one, value_at, first_there}
 use Rattle.bl_ffi.specs.Places.{closed}
@@ -23,7 +21,6 @@ again : (code n : ℤ) → code ≡ n → to_z w32 (of_z w32 n) ≡ n → to_z w
 again code n is fits = ap (λ (z : ℤ). to_z w32 (of_z w32 z)) is ∙ fits
 
 pub fault_kept : (why : CloseFault) (code : ℤ) → IsCodeOfFault why code → IsCodeOfFault why (to_z w32 (of_z w32 code))
-fault_kept fault.Underway code h = again code (pos 4) h refl
 fault_kept fault.Missing code h = again code (pos 11) h refl
 fault_kept fault.Shared code h = again code (pos 11) h refl
 fault_kept fault.Memory code h = again code (pos 7) h refl
@@ -41,7 +38,6 @@ too_long boxes box bytes long first one is low =
 
 -- no more seats come back than were given
 pub back_fits : (old back : List Seat) (why : CloseFault) → IsNotClosed old back why → length back ≤ length old
-back_fits old back fault.Underway h = (let same = length_all_zip HasSettled old back h.0 in omega (arith, same))
 back_fits old back fault.Missing h = (let same = ap length h.0 in omega (arith, same))
 back_fits old back fault.Shared h = (let same = ap length h.1 in omega (arith, same))
 back_fits old back fault.Memory h = (let same = ap length h.1 in omega (arith, same))

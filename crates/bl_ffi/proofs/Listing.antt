@@ -4,7 +4,9 @@ use Rattle.std.proofs.lemmas.List.{take_more}
 use Rattle.bl_ffi.specs.declared.calls.Row.{Row}
 use Rattle.bl_model.specs.declared.operation.Reply.{Reply}
 use Rattle.bl_model.specs.declared.operation.Reply.TheVariants.{Rows}
-use Rattle.bl_model.specs.declared.operation.Op.TheVariants as op
+use Rattle.bl_proc.specs.declared.parts.Direction.{Direction}
+use Rattle.bl_proc.specs.declared.parts.Direction.TheVariants.{Up, Down}
+use Rattle.bl_proc.specs.Parts.{op_toward}
 use Rattle.bl_model.specs.Map.{Map, MayAnswer}
 use Rattle.bl_ffi.specs.Told.{row_of, IsRows}
 
@@ -56,10 +58,8 @@ same_there [] i d e lt = absurd (omega (arith, lt))
 same_there (x ∷ l) zero d e lt = refl
 same_there (x ∷ l) (suc i) d e lt = same_there l i d e (omega (arith, lt))
 
-pub part_has_rows : (m : Map) (from : ℕ) (reply : Reply) → MayAnswer m (op.Part from) reply → IsRows reply
-part_has_rows m from (Rows pairs next) may = tt
-part_has_rows m from reply may = absurd may
-
-pub part_down_has_rows : (m : Map) (from : ℕ) (reply : Reply) → MayAnswer m (op.PartDown from) reply → IsRows reply
-part_down_has_rows m from (Rows pairs next) may = tt
-part_down_has_rows m from reply may = absurd may
+pub part_has_rows : (m : Map) (direction : Direction) (from : ℕ) (reply : Reply) → MayAnswer m (op_toward direction from) reply → IsRows reply
+part_has_rows m Up from (Rows pairs next) may = tt
+part_has_rows m Down from (Rows pairs next) may = tt
+part_has_rows m Up from reply may = absurd may
+part_has_rows m Down from reply may = absurd may

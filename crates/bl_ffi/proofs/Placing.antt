@@ -10,8 +10,8 @@ use Rattle.bl_ffi_seats.specs.declared.seat.Seat.{Seat}
 use Rattle.bl_page.specs.declared.page.Page.{Page}
 use Rattle.bl_index.specs.Calls.{pages_of}
 use Rattle.bl_index.proofs.Gathered.{all_of}
-use Rattle.bl_ffi_seats.specs.Meetings.{AreOfOne, HasRested}
-use Rattle.bl_ffi_seats.specs.Closed.{values, AreAtOne, HaveClosed, AreShut}
+use Rattle.bl_ffi_seats.specs.Seats.{AreOfOne}
+use Rattle.bl_ffi_seats.specs.Closed.{values, AreAtOne, HaveClosed}
 use Rattle.bl_ffi_seats.proofs.Closings.{Boxed, map_at, map_length}
 use Rattle.bl_ffi.specs.declared.seat.SeatOfC.{SeatOfC}
 use Rattle.std.specs.Arc.{arc_value}
@@ -277,11 +277,6 @@ put_full mid new boxes n long empty put = put ∙ (ap (λ (z : List (Option Seat
 -- the pages of a closed map are as many as those of the index of each of its seats
 pub pages_closed : (boxes : List Boxed) (box : Boxed) (pages : List (Option Page)) → Some box ≡ slice_get boxes 0 → HaveClosed (values boxes) pages → length pages ≡ pages_of (arc_value box.value.index)
 pages_closed [] box pages is h = absurd (let f : Some box ≡ None = is in cc)
-pages_closed (x ∷ boxes) box pages is h = go h.rested h.have_rested h.shut
-  where
-    same : x.value.index ≡ box.value.index
-    same = ap (λ (z : Boxed). z.value.index) (sym (some_same box x is))
-
-    go : (rested : List Seat) → AllZip HasRested (x.value ∷ values boxes) rested → AreShut rested pages → length pages ≡ pages_of (arc_value box.value.index)
-    go [] rest shut = absurd rest
-    go (r ∷ rested) rest shut = shut.closes.count ∙ ap pages_of (sym (shut.at 0 r (omega arith)) ∙ (ap arc_value rest.0.0.same.0 ∙ ap arc_value same))
+pages_closed (x ∷ boxes) box pages is h =
+    let same : x.value.index ≡ box.value.index = ap (λ (z : Boxed). z.value.index) (sym (some_same box x is)) in
+    h.closes.count ∙ ap pages_of (sym (h.at 0 x.value (omega arith)) ∙ ap arc_value same)

@@ -3,8 +3,7 @@ use Rattle.std.specs.Prelude.{◌≡◌, ◌⊎◌, ◌<◌, ◌^◌, ◌-◌, �
 use Rattle.bl_index_range.specs.declared.ranging.RangeFault.{RangeFault}
 use Rattle.bl_index_range.specs.declared.ranging.RangeFault.TheVariants as fault
 use Rattle.bl_ffi_seats.specs.declared.seat.Seat.{Seat}
-use Rattle.bl_ffi_seats.specs.Tended.{KeepsUpkeep}
-use Rattle.bl_ffi_seats.specs.Ranges.{HasRead, HasStopped, IsBusy}
+use Rattle.bl_ffi_seats.specs.Seats.{KeepsUpkeep, HasRead, HasStopped}
 use Rattle.bl_ffi.specs.declared.calls.Row.{Row}
 use Rattle.bl_ffi.specs.Told.{row_of}
 
@@ -22,10 +21,9 @@ abbrev pub IsWritten : List (ℕ × ℕ) → List Row → List Row → ℕ → �
 IsWritten pairs old new count code = (count ≡ length pairs)
     × (((code ≡ pos 0) × (new ≡ map row_of pairs ++ drop (length pairs) old)) ⊎ ((code ≡ pos 10) × (length old < length pairs) × (new ≡ old)))
 
--- The seat has read the range, and its rows are written; or something is underway still; or the range has stopped, for the reason that the code
--- tells: then nothing is written. It loses no upkeep.
+-- The seat has read the range, and its rows are written; or the range has stopped, for the reason that the code tells: then nothing is written.
+-- It loses no upkeep.
 abbrev pub RangesRows : ℕ → Option ℕ → ℕ → List Row → List Row → ℕ → ℕ → ℤ → Seat → Seat → Type 0
 RangesRows from to rounds rows rows' count count' code old new = KeepsUpkeep old new
     × (((pairs : List (ℕ × ℕ)) × HasRead from to pairs old new × IsWritten pairs rows rows' count' code)
-    ⊎ ((rows' ≡ rows) × (count' ≡ count)
-    × (((code ≡ pos 4) × IsBusy old new) ⊎ ((why : RangeFault) × IsCodeOfStop why code × HasStopped from to rounds why old new))))
+    ⊎ ((why : RangeFault) × IsCodeOfStop why code × HasStopped from to rounds why old new × (rows' ≡ rows) × (count' ≡ count)))

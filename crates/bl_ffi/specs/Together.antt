@@ -1,19 +1,18 @@
 -- What calls of several seats of one map tell C.
 use Rattle.std.specs.Arc.{arc_value}
-use Rattle.std.specs.Prelude.{◌≡◌, ◌≢◌, ◌⊎◌, ◌+◌, ◌*◌, ◌<◌, ℕ, ℤ, pos, List, Option, None, Some, All, length, take, drop}
+use Rattle.std.specs.Prelude.{◌≡◌, ◌≢◌, ◌⊎◌, ◌+◌, ◌*◌, ◌<◌, ℕ, ℤ, pos, List, Option, None, Some, MatchOption, All, length, take, drop}
+use denote.RawPtr.{Ptr}
 use mathlib.Core.Option.{some}
 use lib.ListN.{get_elem?}
 use Rattle.bl_page.specs.declared.page.Page.{Page}
 use Rattle.bl_image.specs.Images.{IsImage}
 use Rattle.bl_index.specs.Calls.{pages_of}
-use Rattle.bl_index_resume.specs.declared.running.Running.TheVariants as at_seat
 use Rattle.bl_ffi_seats.specs.declared.closing.CloseFault.{CloseFault}
 use Rattle.bl_ffi_seats.specs.declared.closing.CloseFault.TheVariants as fault
 use Rattle.bl_ffi_seats.specs.declared.seat.Seat.{Seat}
-use Rattle.bl_ffi_seats.specs.Calls.{IsSameSeat, HasGoneOn, HasCarriedOn}
-use Rattle.bl_ffi_seats.specs.Tended.{KeepsUpkeep}
-use Rattle.bl_ffi_seats.specs.Meetings.{AreOfOne, HaveMet}
+use Rattle.bl_ffi_seats.specs.Seats.{IsSameSeat, KeepsUpkeep, AreOfOne, HaveMet}
 use Rattle.bl_ffi_seats.specs.Closed.{HaveClosed, IsNotClosed}
+use Rattle.bl_ffi.specs.declared.seat.SeatOfC.{SeatOfC}
 use Rattle.bl_ffi.specs.Places.{opened, closed, placed}
 
 -- two places that are open are of one map
@@ -24,13 +23,8 @@ AreOfOneMap one two = (s t : Seat) → one ≡ Some s → two ≡ Some t → Are
 abbrev pub AreAtOneMap : List (Option Seat) → Type 0
 AreAtOneMap places = (i j : ℕ) (s t : Seat) → get_elem? places i ≡ some (Some s) → get_elem? places j ≡ some (Some t) → AreOfOne s t
 
--- Both have gone on, and something is underway at one of them still. They lose no upkeep.
-abbrev pub WaitToMeet : Seat → Seat → Seat → Seat → Type 0
-WaitToMeet s t s' t' = (HasGoneOn s s' × HasGoneOn t t') × (HasCarriedOn s s' × HasCarriedOn t t') × (KeepsUpkeep s s' × KeepsUpkeep t t')
-    × ((s'.running ≢ at_seat.Rests) ⊎ (t'.running ≢ at_seat.Rests))
-
--- Two open places have the same seats then, which have met, or are to try again.
-pub record ComeTogether (one two one' two' : Option Seat) (code : ℤ) : Type 0 where
+-- Two open places have the same seats then, which have met, and lose no upkeep.
+pub record ComeTogether (one two one' two' : Option Seat) : Type 0 where
   pub s : Seat
   pub t : Seat
   pub s' : Seat
@@ -38,14 +32,23 @@ pub record ComeTogether (one two one' two' : Option Seat) (code : ℤ) : Type 0 
   pub were : (one ≡ Some s) × (two ≡ Some t)
   pub are : (one' ≡ Some s') × (two' ≡ Some t')
   pub same : IsSameSeat s s' × IsSameSeat t t'
-  pub come : ((code ≡ pos 0) × HaveMet s t s' t') ⊎ ((code ≡ pos 4) × WaitToMeet s t s' t')
+  pub keeps : KeepsUpkeep s s' × KeepsUpkeep t t'
+  pub met : HaveMet s t s' t'
+
+-- one of them is closed
+abbrev pub IsOneClosed : Option Seat → Option Seat → Type 0
+IsOneClosed one two = (one ≡ None) ⊎ (two ≡ None)
 
 -- One is closed, and nothing was done; or both come together.
 abbrev pub Meets : Option Seat → Option Seat → Option Seat → Option Seat → ℤ → Type 0
-Meets one two one' two' code = ((code ≡ pos 9) × ((one ≡ None) ⊎ (two ≡ None)) × (one' ≡ one) × (two' ≡ two)) ⊎ ComeTogether one two one' two' code
+Meets one two one' two' code = ((code ≡ pos 9) × IsOneClosed one two × (one' ≡ one) × (two' ≡ two)) ⊎ ((code ≡ pos 0) × ComeTogether one two one' two')
+
+-- The seat is as it was, and a closed one leaves the place as it was. Of what an open one shows no clause says more, since no clause of `Arc`
+-- says where its value lies.
+abbrev pub Shows : SeatOfC → SeatOfC → Ptr → Ptr → ℤ → Type 0
+Shows old new place place' code = MatchOption old.seat ((code ≡ pos 9) × (new.seat ≡ None) × (place' ≡ place)) (λ s. (code ≡ pos 0) × (new.seat ≡ Some s))
 
 abbrev pub IsCodeOfFault : CloseFault → ℤ → Type 0
-IsCodeOfFault fault.Underway code = code ≡ pos 4
 IsCodeOfFault fault.Missing code = code ≡ pos 11
 IsCodeOfFault fault.Shared code = code ≡ pos 11
 IsCodeOfFault fault.Memory code = code ≡ pos 7
@@ -71,7 +74,7 @@ ClosesSeats seats places old new long code =
     ⊎ ((why : CloseFault) × (back : List Seat) × IsCodeOfFault why code × IsNotClosed seats back why × (places ≡ placed back (length seats)) × (new ≡ old))
 
 -- There was no memory, or one of the places is closed, and nothing was done; or all are open, and their seats close the map, or are back. With any
--- code but 0 and 14 they are all open still: as they were, or with 4 gone on.
+-- code but 0 and 14 they are all open still, as they were.
 abbrev pub ClosesImage : List (Option Seat) → List (Option Seat) → List ℕ → List ℕ → ℕ → ℤ → Type 0
 ClosesImage places places' old new long code =
     ((code ≡ pos 7) × (places' ≡ places) × (new ≡ old))

@@ -1,15 +1,16 @@
 //! The calls.
 
-ghost use Rattle.std.specs.Prelude.{◌≡◌, ◌≢◌, ◌<◌, ◌≤◌, pos, drop, length, MatchOption};
+ghost use Rattle.std.specs.Prelude.{◌≡◌, ◌≢◌, ◌<◌, ◌≤◌, pos, drop, length};
 ghost use Rattle.bl_model.specs.declared.operation.Op.TheVariants as op;
 ghost use Rattle.bl_model.specs.Replies.{reply_of};
 ghost use Rattle.bl_model.specs.declared.deciding.KeyWrite.TheVariants as key_write;
-ghost use Rattle.bl_ffi.specs.Told.{IsCodeOf, Finds, TellsCode, Closes, Calls, IsRows, IsListed, Lists, next_behind, TendsAndSays, StaysAsItWas, Counts, waiting_of, dropped_of};
+ghost use Rattle.bl_proc.specs.Parts.{op_toward};
+ghost use Rattle.bl_ffi.specs.Told.{IsCodeOf, TellsFound, TellsWritten, Closes, Calls, IsRows, IsFilled, Lists, next_behind, TellsUpkeep, StaysAsItWas};
 
 use crate::codes::{ABSENT, AGAIN, CLOSED, FEW_ROWS, NO_ROOM, OK, PRESENT};
 use crate::places::{put_back, taken};
 use crate::seat::SeatOfC;
-use bl_ffi_seats::{KeyReply, KeyWrite, Next, Reply};
+use bl_ffi_seats::{Direction, KeyReply, KeyWrite, Next, Reply};
 use std::alloc::Global;
 
 /// A key and its value.
@@ -20,28 +21,8 @@ pub struct Row {
     pub value: u64,
 }
 
-/// The code of a reply to a write, and the value that stands beside it.
-fn told(reply: Reply, value: &mut u64) -> i32
-    ensures { IsCodeOf reply result value.new }
-{
-    match reply {
-        Reply::Inserted | Reply::Changed => OK,
-        Reply::Found(there) | Reply::Deleted(there) => {
-            *value = there;
-            OK
-        }
-        Reply::Present(there) | Reply::Differs(there) | Reply::Replaced(there) => {
-            *value = there;
-            PRESENT
-        }
-        Reply::Absent => ABSENT,
-        Reply::NoRoom => NO_ROOM,
-        Reply::Rows(_, _) => AGAIN,
-    }
-}
-
-/// The same of a search.
-fn found(reply: KeyReply, value: &mut u64) -> i32
+/// The code of a reply, and the value that stands beside it.
+fn told(reply: KeyReply, value: &mut u64) -> i32
     ensures { IsCodeOf (reply_of reply) result value.new }
 {
     match reply {
@@ -59,19 +40,15 @@ fn found(reply: KeyReply, value: &mut u64) -> i32
     }
 }
 
-/// Closes the seat, once nothing is underway at it. The index goes with its last seat.
+/// Closes the seat. The index goes with its last seat.
 #[unsafe(no_mangle)]
 pub extern "C" fn blink_try_close(alloc: Global, seat: &mut SeatOfC) -> i32
     ensures { Closes seat.old seat.new result }
 {
-    let Some(mut mine) = taken(alloc, seat) else {
-        return CLOSED;
-    };
-    if mine.rest() {
-        return OK;
+    match taken(alloc, seat) {
+        Some(_mine) => OK,
+        None => CLOSED,
     }
-    put_back(alloc, seat, mine);
-    AGAIN
 }
 
 /// The value of a key.
@@ -82,7 +59,7 @@ pub extern "C" fn blink_try_find(
     key: u64,
     value: &mut u64,
 ) -> i32
-    ensures { Finds (op.Find key) seat.old seat.new result value.new }
+    ensures { TellsFound (op.Find key) seat.old seat.new result value.new }
 {
     let Some(mut mine) = taken(alloc, seat) else {
         return CLOSED;
@@ -90,7 +67,7 @@ pub extern "C" fn blink_try_find(
     let answer = mine.find(key);
     put_back(alloc, seat, mine);
     match answer {
-        Some(reply) => found(reply, value),
+        Some(reply) => told(reply, value),
         None => AGAIN,
     }
 }
@@ -108,9 +85,9 @@ pub extern "C" fn blink_fetch(alloc: Global, seat: &mut SeatOfC, keys: &[u64]) -
     OK
 }
 
-/// Writes a key, and puts the value beside the reply.
+/// TellsWritten a key, and puts the value beside the reply.
 fn write(alloc: Global, seat: &mut SeatOfC, key: u64, write: KeyWrite, value: &mut u64) -> i32
-    ensures { TellsCode key write seat.old seat.new result value.new }
+    ensures { TellsWritten key write seat.old seat.new result value.new }
 {
     let Some(mut mine) = taken(alloc, seat) else {
         return CLOSED;
@@ -132,7 +109,7 @@ pub extern "C" fn blink_try_insert(
     value: u64,
     there: &mut u64,
 ) -> i32
-    ensures { TellsCode key (key_write.Insert value) seat.old seat.new result there.new }
+    ensures { TellsWritten key (key_write.Insert value) seat.old seat.new result there.new }
 {
     write(alloc, seat, key, KeyWrite::Insert(value), there)
 }
@@ -146,7 +123,7 @@ pub extern "C" fn blink_try_put(
     value: u64,
     old: &mut u64,
 ) -> i32
-    ensures { TellsCode key (key_write.Put value) seat.old seat.new result old.new }
+    ensures { TellsWritten key (key_write.Put value) seat.old seat.new result old.new }
 {
     write(alloc, seat, key, KeyWrite::Put(value), old)
 }
@@ -159,7 +136,7 @@ pub extern "C" fn blink_try_delete(
     key: u64,
     gone: &mut u64,
 ) -> i32
-    ensures { TellsCode key key_write.Delete seat.old seat.new result gone.new }
+    ensures { TellsWritten key key_write.Delete seat.old seat.new result gone.new }
 {
     write(alloc, seat, key, KeyWrite::Delete, gone)
 }
@@ -174,7 +151,7 @@ pub extern "C" fn blink_try_change(
     new: u64,
     there: &mut u64,
 ) -> i32
-    ensures { TellsCode key (key_write.Change old new) seat.old seat.new result there.new }
+    ensures { TellsWritten key (key_write.Change old new) seat.old seat.new result there.new }
 {
     write(alloc, seat, key, KeyWrite::Change(old, new), there)
 }
@@ -203,11 +180,11 @@ fn next_behind(pairs: &[(u64, u64)], taken: usize, next: Next) -> Next
     }
 }
 
-/// Writes the rows of a reply into the caller's array, as many as it has room for. Where it has room for all, the way to the next part is
+/// TellsWritten the rows of a reply into the caller's array, as many as it has room for. Where it has room for all, the way to the next part is
 /// short from that page.
 fn listed(reply: &Reply, near: u32, rows: &mut [Row], part: &mut Part)
     requires { IsRows reply.now }
-    ensures { IsListed reply.now rows.old rows.new part.new }
+    ensures { IsFilled reply.now rows.old rows.new part.new }
 {
     let Reply::Rows(pairs, next) = reply else {
         unreachable!()
@@ -228,17 +205,17 @@ fn listed(reply: &Reply, near: u32, rows: &mut [Row], part: &mut Part)
     }
 }
 
-/// The rows of one leaf from a key on, as many as there is room for, into the caller's array.
-#[unsafe(no_mangle)]
-pub extern "C" fn blink_try_rows(
+/// The rows of one leaf from a key on, upwards or downwards, as many as there is room for, into the caller's array.
+fn list(
     alloc: Global,
     seat: &mut SeatOfC,
+    direction: Direction,
     from: u64,
     rows: &mut [Row],
     part: &mut Part,
 ) -> i32
     ensures few { length rows.old < 1 → (result ≡ pos 10) × (seat.new ≡ seat.old) × (rows.new ≡ rows.old) }
-    ensures told { 1 ≤ length rows.old → Calls seat.old seat.new result (Lists (op.Part from) rows.old rows.new part.new result) }
+    ensures told { 1 ≤ length rows.old → Calls seat.old seat.new result (Lists (op_toward direction from) rows.old rows.new part.new result) }
     ensures rest { result ≢ pos 0 → rows.new ≡ rows.old }
 {
     if rows.is_empty() {
@@ -252,7 +229,7 @@ pub extern "C" fn blink_try_rows(
     } else {
         Some(part.near)
     };
-    let answer = mine.part(from, &mut near);
+    let answer = mine.part(direction, from, &mut near);
     put_back(alloc, seat, mine);
     match answer {
         Some(reply) => {
@@ -263,7 +240,23 @@ pub extern "C" fn blink_try_rows(
     }
 }
 
-/// The rows of one leaf from a key on downwards, as many as there is room for, into the caller's array.
+/// The rows of one leaf from a key on.
+#[unsafe(no_mangle)]
+pub extern "C" fn blink_try_rows(
+    alloc: Global,
+    seat: &mut SeatOfC,
+    from: u64,
+    rows: &mut [Row],
+    part: &mut Part,
+) -> i32
+    ensures few { length rows.old < 1 → (result ≡ pos 10) × (seat.new ≡ seat.old) × (rows.new ≡ rows.old) }
+    ensures told { 1 ≤ length rows.old → Calls seat.old seat.new result (Lists (op.Part from) rows.old rows.new part.new result) }
+    ensures rest { result ≢ pos 0 → rows.new ≡ rows.old }
+{
+    list(alloc, seat, Direction::Up, from, rows, part)
+}
+
+/// The rows of one leaf from a key on downwards.
 #[unsafe(no_mangle)]
 pub extern "C" fn blink_try_rows_down(
     alloc: Global,
@@ -276,59 +269,18 @@ pub extern "C" fn blink_try_rows_down(
     ensures told { 1 ≤ length rows.old → Calls seat.old seat.new result (Lists (op.PartDown from) rows.old rows.new part.new result) }
     ensures rest { result ≢ pos 0 → rows.new ≡ rows.old }
 {
-    if rows.is_empty() {
-        return FEW_ROWS;
-    }
-    let Some(mut mine) = taken(alloc, seat) else {
-        return CLOSED;
-    };
-    let answer = mine.part_down(from);
-    put_back(alloc, seat, mine);
-    match answer {
-        Some(reply) => {
-            listed(&reply, 0, rows, part);
-            OK
-        }
-        None => AGAIN,
-    }
+    list(alloc, seat, Direction::Down, from, rows, part)
 }
 
 /// Does so many pieces of upkeep at most.
 #[unsafe(no_mangle)]
-pub extern "C" fn blink_tend(alloc: Global, seat: &mut SeatOfC, most: u32) -> i32
-    ensures { TendsAndSays most seat.old seat.new result }
+pub extern "C" fn blink_try_upkeep(alloc: Global, seat: &mut SeatOfC, most: u32) -> i32
+    ensures { TellsUpkeep most seat.old seat.new result }
 {
     let Some(mut mine) = taken(alloc, seat) else {
         return CLOSED;
     };
-    let done = mine.tend(most);
-    mine.sweep();
+    let done = mine.upkeep(most);
     put_back(alloc, seat, mine);
     if done { OK } else { AGAIN }
-}
-
-/// How many pieces of upkeep wait.
-#[unsafe(no_mangle)]
-pub extern "C" fn blink_waiting(alloc: Global, seat: &mut SeatOfC) -> u32
-    ensures { Counts waiting_of seat.old seat.new result }
-{
-    let Some(mine) = taken(alloc, seat) else {
-        return 0;
-    };
-    let waiting = mine.waiting();
-    put_back(alloc, seat, mine);
-    waiting
-}
-
-/// How many pieces of upkeep were dropped.
-#[unsafe(no_mangle)]
-pub extern "C" fn blink_dropped(alloc: Global, seat: &mut SeatOfC) -> u64
-    ensures { Counts dropped_of seat.old seat.new result }
-{
-    let Some(mine) = taken(alloc, seat) else {
-        return 0;
-    };
-    let dropped = mine.dropped();
-    put_back(alloc, seat, mine);
-    dropped
 }

@@ -8,7 +8,7 @@ pub(crate) const ABSENT: i32 = 1;
 pub(crate) const PRESENT: i32 = 2;
 /// There was no room, and nothing has changed.
 pub(crate) const NO_ROOM: i32 = 3;
-/// It is not answered yet, and is to be made again.
+/// It has not been done, and is to be made again.
 pub(crate) const AGAIN: i32 = 4;
 /// The number of pages is not 4 to 2^28.
 pub(crate) const BAD_PAGES: i32 = 5;

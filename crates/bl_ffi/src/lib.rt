@@ -11,21 +11,18 @@ mod loose;
 mod opening;
 mod places;
 mod ranging;
-mod room;
 mod saving;
 mod seat;
 mod stats;
 mod together;
 
 pub use calls::{
-    Part, Row, blink_dropped, blink_tend, blink_try_change, blink_try_close, blink_try_delete,
-    blink_try_find, blink_try_insert, blink_try_put, blink_try_rows, blink_try_rows_down,
-    blink_waiting,
+    Part, Row, blink_try_change, blink_try_close, blink_try_delete, blink_try_find,
+    blink_try_insert, blink_try_put, blink_try_rows, blink_try_rows_down, blink_try_upkeep,
 };
 pub use opening::{blink_open, blink_open_image, blink_open_larger};
 pub use ranging::blink_try_range;
-pub use room::{Room, blink_room_of};
 pub use saving::blink_image_of;
 pub use seat::{Hidden, SeatOfC};
 pub use stats::{Stats, blink_stat};
-pub use together::{blink_image_length, blink_map, blink_try_close_image, blink_try_meet};
+pub use together::{blink_image_length, blink_place, blink_try_close_image, blink_try_meet};

@@ -71,8 +71,7 @@ pub extern "C" fn blink_try_range(
     let done = mine.range(alloc, from, end_behind(last), rounds);
     put_back(alloc, seat, mine);
     match done {
-        Some(Ok(pairs)) => written(pairs.as_slice(), rows, count),
-        Some(Err(why)) => code_of(why),
-        None => AGAIN,
+        Ok(pairs) => written(pairs.as_slice(), rows, count),
+        Err(why) => code_of(why),
     }
 }

@@ -2,11 +2,10 @@
 
 ghost use Rattle.std.specs.Prelude.{◌≡◌, ◌+◌, ◌*◌, length};
 ghost use Rattle.bl_ffi_seats.specs.Closed.{values, AreAtOne};
-ghost use Rattle.bl_ffi.specs.Told.{Shows};
 ghost use Rattle.bl_ffi.specs.Places.{seats_in, closed};
-ghost use Rattle.bl_ffi.specs.Together.{AreOfOneMap, AreAtOneMap, Meets, ClosesSeats, ClosesImage, IsCodeOfFault};
+ghost use Rattle.bl_ffi.specs.Together.{AreOfOneMap, AreAtOneMap, Meets, Shows, ClosesSeats, ClosesImage, IsCodeOfFault};
 
-use crate::codes::{AGAIN, CLOSED, FEW_BYTES, NO_MEMORY, OK, SEATS_LOST, SEATS_OPEN};
+use crate::codes::{CLOSED, FEW_BYTES, NO_MEMORY, OK, SEATS_LOST, SEATS_OPEN};
 use crate::places::{put_all, put_back, take_all, taken};
 use crate::seat::SeatOfC;
 use bl_ffi_seats::{CloseFault, Seat, close};
@@ -26,16 +25,16 @@ pub extern "C" fn blink_try_meet(alloc: Global, one: &mut SeatOfC, two: &mut Sea
         put_back(alloc, one, mine);
         return CLOSED;
     };
-    let met = mine.meet(&mut theirs);
+    mine.meet(&mut theirs);
     put_back(alloc, one, mine);
     put_back(alloc, two, theirs);
-    if met { OK } else { AGAIN }
+    OK
 }
 
 /// A place in the memory of the seat's map, by whose address maps are told apart. No clause says so, since none of `Arc` says where its value lies.
 /// A closed seat shows none.
 #[unsafe(no_mangle)]
-pub extern "C" fn blink_map(alloc: Global, seat: &mut SeatOfC, place: &mut *const u32) -> i32
+pub extern "C" fn blink_place(alloc: Global, seat: &mut SeatOfC, place: &mut *const u32) -> i32
     ensures { Shows seat.old seat.new place.old place.new result }
 {
     let Some(mine) = taken(alloc, seat) else {
@@ -59,7 +58,6 @@ fn code_of(why: CloseFault) -> i32
     ensures { IsCodeOfFault why result }
 {
     match why {
-        CloseFault::Underway => AGAIN,
         CloseFault::Missing | CloseFault::Shared => SEATS_OPEN,
         CloseFault::Memory => NO_MEMORY,
         CloseFault::Lost => SEATS_LOST,

@@ -1,14 +1,4 @@
 pub mod Begun
-pub mod Goes
-pub mod Tending
 pub mod Made
-pub mod CompressEnds
-pub mod Accounts
-pub mod Searched
-pub mod Starts
-pub mod Started
-pub mod Gone
 pub mod Closings
 pub mod PartReplies
-pub mod Followed
-pub mod Settled

@@ -1,7 +1,6 @@
 -- An index is closed by its seats.
 use Rattle.std.specs.Arc.{arc_value}
-use Rattle.std.specs.Prelude.{◌≡◌, ◌≢◌, ℕ, ◌<◌, ◌≤◌, List, [], Option, All, length, map, vec_capacity, Box}
-use Rattle.std.specs.List.{AllZip}
+use Rattle.std.specs.Prelude.{◌≡◌, ℕ, ◌<◌, ◌≤◌, List, [], Option, All, length, map, vec_capacity, Box}
 use Rattle.std.specs.declared.alloc.Global.{Global}
 use mathlib.Core.Option.{some}
 use lib.ListN.{get_elem?}
@@ -11,20 +10,18 @@ use Rattle.bl_index_rule.specs.declared.known.PassState.{PassState}
 use Rattle.bl_index.specs.declared.index.Index.{Index}
 use Rattle.bl_index.specs.Calls.{pages_of, passes_of}
 use Rattle.bl_index.specs.Closed.{HasCapacity, ClosesHands}
-use Rattle.bl_index_resume.specs.declared.running.Running.TheVariants as at_seat
 use Rattle.bl_ffi_seats.specs.declared.seat.Seat.{Seat}
 use Rattle.bl_ffi_seats.specs.declared.closing.Prepared.{Prepared}
 use Rattle.bl_ffi_seats.specs.declared.closing.CloseFault.{CloseFault}
 use Rattle.bl_ffi_seats.specs.declared.closing.CloseFault.TheVariants as fault
-use Rattle.bl_ffi_seats.specs.Calls.{seat_number}
-use Rattle.bl_ffi_seats.specs.Meetings.{AreOfOne, HasSettled, HasRested}
+use Rattle.bl_ffi_seats.specs.Seats.{seat_number, AreOfOne}
 
 -- the seats in boxes
 abbrev pub values : List (Box Seat Global) → List Seat
 values boxes = map (λ b. b.value) boxes
 
 abbrev pub hand_of : Seat → Hand PassState
-hand_of seat = seat.hand
+hand_of seat = seat.pass.hand
 
 -- all are at one index
 abbrev pub AreAtOne : List Seat → Type 0
@@ -48,31 +45,14 @@ LacksOne seats seat = (n : ℕ) × (n < passes_of (arc_value seat.index)) × ¬ 
 abbrev pub AreComplete : List Seat → Type 0
 AreComplete seats = All (λ seat. AreAll (arc_value seat.index) seats) seats
 
-abbrev pub HaveSettled : List Seat → List Seat → Type 0
-HaveSettled old new = AllZip HasSettled old new
-
-abbrev pub AllRest : List Seat → Type 0
-AllRest seats = All (λ seat. seat.running ≡ at_seat.Rests) seats
-
--- something is underway at one of them
-abbrev pub IsOneUnderway : List Seat → Type 0
-IsOneUnderway seats = (k : ℕ) × (seat : Seat) × (get_elem? seats k ≡ some seat) × (seat.running ≢ at_seat.Rests)
-
 -- The seats are all those of one index, which is closed by their hands.
-pub record AreShut (seats : List Seat) (pages : List (Option Page)) : Type 0 where
+pub record HaveClosed (seats : List Seat) (pages : List (Option Page)) : Type 0 where
   pub index : Index
   pub at : All (IsAtIndex index) seats
   pub closes : ClosesHands index (map hand_of seats) pages
 
--- All came to rest, and their index was closed then.
-pub record HaveClosed (seats : List Seat) (pages : List (Option Page)) : Type 0 where
-  pub rested : List Seat
-  pub have_rested : AllZip HasRested seats rested
-  pub shut : AreShut rested pages
-
 -- Why nothing was begun: a seat is missing; or all are there, and there was no memory, or somebody else has a share.
 abbrev pub IsNotPrepared : List Seat → CloseFault → Type 0
-IsNotPrepared seats fault.Underway = ⊥
 IsNotPrepared seats fault.Missing = All (LacksOne seats) seats
 IsNotPrepared seats fault.Shared = AreComplete seats
 IsNotPrepared seats fault.Memory = AreComplete seats
@@ -81,7 +61,6 @@ IsNotPrepared seats fault.Lost = ⊥
 -- Why an index was not closed, and its seats then. Where one is missing, or all are there and there was no memory, or somebody else has a share,
 -- they are as they were. They are gone where all were there, and nobody but they had a share when that was looked at.
 abbrev pub IsNotClosed : List Seat → List Seat → CloseFault → Type 0
-IsNotClosed old new fault.Underway = HaveSettled old new × IsOneUnderway new
 IsNotClosed old new fault.Missing = (new ≡ old) × All (LacksOne old) old
 IsNotClosed old new fault.Shared = AreComplete old × (new ≡ old)
 IsNotClosed old new fault.Memory = AreComplete old × (new ≡ old)

@@ -13,14 +13,12 @@ use Rattle.bl_index.specs.Opened.{IsIndexOpened, IsReopened as IsIndexReopened, 
 use Rattle.bl_ffi_seats.specs.declared.seat.Seat.{Seat}
 use Rattle.bl_ffi_seats.specs.declared.opening.ImageFault.{ImageFault}
 use Rattle.bl_ffi_seats.specs.declared.opening.ImageFault.TheVariants as fault
-use Rattle.bl_ffi_seats.specs.Calls.{HasNothingToDo}
+use Rattle.bl_waiting.specs.Queue.{IsNone}
+use Rattle.bl_ffi_seats.specs.Seats.{IsDone}
 
--- The seat works at this index by the hand of that pass. It has nothing to do, and has dropped nothing.
-pub record IsNewSeat (index : Index) (pass : Pass) (seat : Seat) : Type 0 where
-  pub at : arc_value seat.index ≡ index
-  pub hand : seat.hand ≡ pass.hand
-  pub rests : HasNothingToDo seat
-  pub dropped : seat.upkeep.waiting.dropped ≡ 0
+-- The seat works at this index by that pass, and has nothing to keep up.
+abbrev pub IsNewSeat : Index → Pass → Seat → Type 0
+IsNewSeat index pass seat = (arc_value seat.index ≡ index) × (seat.pass ≡ pass) × IsNone seat.waiting × IsDone seat
 
 -- a seat for each pass, in their order
 abbrev pub AreSeatsOf : Index → List Pass → List Seat → Type 0

@@ -1,104 +1,92 @@
--- Who sits at an index, and what a seat's calls have answered.
-use Rattle.std.specs.Prelude.{◌≡◌, ◌≢◌, ◌⊎◌, ℕ, Option, Some, None}
-use Rattle.bl_model.specs.declared.operation.Op.{Op}
-use Rattle.bl_model.specs.declared.operation.Op.TheVariants as op
-use Rattle.bl_model.specs.declared.operation.Reply.{Reply}
-use Rattle.bl_model.specs.declared.operation.Reply.TheVariants as replies
+-- What a call of a seat promises: what the map's same call does, or that it is to be made again.
+use Rattle.std.specs.Prelude.{◌≡◌, ℕ, List, Option}
+use Rattle.std.specs.Arc.{arc_value}
 use Rattle.bl_model.specs.declared.deciding.KeyWrite.{KeyWrite}
-use Rattle.bl_model.specs.Writes.{write_op}
+use Rattle.bl_model.specs.declared.operation.Op.{Op}
+use Rattle.bl_model.specs.declared.operation.Reply.{Reply}
+use Rattle.bl_page.specs.declared.page.Page.{Page}
 use Rattle.bl_claims.specs.Trails.{Trail}
-use Rattle.bl_claims.specs.Seeing.{GoesOnFrom}
-use Rattle.bl_index_events.specs.Rooms.{LacksWrite}
-use Rattle.bl_answers.specs.declared.answers.Answer.{Answer}
-use Rattle.bl_answers.specs.declared.answers.Answer.TheVariants as answers
-use Rattle.bl_answers.specs.declared.answers.Hint.{Hint}
-use Rattle.bl_answers.specs.declared.answers.Hint.TheVariants as hint
-use Rattle.bl_answers.specs.declared.answers.Posted.{Posted}
-use Rattle.bl_answers.specs.declared.answers.Posted.TheVariants as posted
-use Rattle.bl_store.specs.declared.store.Hand.{Hand}
-use Rattle.bl_store.specs.Hands.{known}
-use Rattle.bl_store.specs.Sweeps.{HasSweptOnce}
-use Rattle.bl_index_rule.specs.declared.known.PassState.{PassState}
-use Rattle.bl_index_read.specs.Searching.{RunsOut}
-use Rattle.bl_index_events.specs.Answered.{Answers}
-use Rattle.bl_index_events.specs.Rooms.{LacksPost}
-use Rattle.bl_index.specs.declared.index.Index.{Index}
-use Rattle.bl_index.specs.Calls.{pages_of, Writes, Posts, Sweeps}
-use Rattle.bl_index_resume.specs.declared.running.Running.{Running}
-use Rattle.bl_index_resume.specs.declared.running.Running.TheVariants as at_seat
-use Rattle.bl_index_resume.specs.Running.{Stands, HasTurnedIn}
+use Rattle.bl_index_read.specs.Searching.{Finds, RunsOut}
+use Rattle.bl_index_range.specs.Ranges.{ReadsRange, StopsRange}
+use Rattle.bl_index_range.specs.declared.ranging.RangeFault.{RangeFault}
+use Rattle.bl_index.specs.Calls.{first_of, pages_of, IsSamePass, number_of, trail, StaysAlone, AllSwept}
+use Rattle.bl_index.specs.Meetings.{Meet}
+use Rattle.bl_model.specs.declared.operation.Reply.TheVariants as replies
+use Rattle.bl_model.specs.Writes.{write_op}
+use Rattle.bl_map_calls.specs.Works.{Works, Adds, Swept, FoundNoRoom}
+use Rattle.bl_map_calls.specs.Tries.{WritesAtOnce, WritesNone, IsRefused, KeepsUp, HasNothingToDo}
+use Rattle.bl_ffi_seats.specs.declared.seat.Seat.{Seat}
 
--- the hand is one of the index's, and runs no process, or the one that it is about
-abbrev pub IsSeated : Index → Hand PassState → Running → Type 0
-IsSeated index hand running = Stands index hand running
+-- what the index began with
+abbrev pub first_of_seat : Seat → List (Option Page)
+first_of_seat seat = first_of (arc_value seat.index)
 
--- the same hand, of the same index, as far as it tells; and what it has seen goes on from what it had seen
-abbrev pub IsSameOne : Hand PassState → Hand PassState → Type 0
-IsSameOne old new =
-    (new.number ≡ old.number) × ((known new.seat).first ≡ (known old.seat).first) × GoesOnFrom (known old.seat).trail (known new.seat).trail
+abbrev pub pages_of_seat : Seat → ℕ
+pages_of_seat seat = pages_of (arc_value seat.index)
 
--- The last call that the hand has answered is this one: it was one process, begun and ended after all that the hand had seen when it
--- began; what the hand has seen now is linearizable, and the call's entry is the last one of its own.
-pub record HasReplied (hand : Hand PassState) (op : Op) (reply : Reply) : Type 0 where
-  pub before : Trail
-  pub answers : Answers (known hand.seat).first hand.number op reply before (known hand.seat).trail
+-- the number of its pass, which its entries have
+abbrev pub seat_number : Seat → ℕ
+seat_number seat = number_of seat.pass
 
--- a search of the key has answered that
-abbrev pub HasFound : Hand PassState → ℕ → Reply → Type 0
-HasFound hand key reply = HasReplied hand (op.Find key) reply
+-- all that has happened in the index, up to the seat's own last event
+abbrev pub seen_at : Seat → Trail
+seen_at seat = trail seat.pass
 
--- The last call that the hand has answered is this write, which has written what its reply means with the hint beside it. Where there was
--- no room, the hand was refused what the write lacks.
-pub record HasWritten (hand : Hand PassState) (key : ℕ) (write : KeyWrite) (reply : Reply) (hint : Option Hint) : Type 0 where
-  pub before : Trail
-  pub writes : Writes (known hand.seat).first hand.number (write_op key write) reply hint before (known hand.seat).trail
-  pub no_room : reply ≡ replies.NoRoom → LacksWrite key write hand.seat
+-- the same seat of the same index
+abbrev pub IsSameSeat : Seat → Seat → Type 0
+IsSameSeat old new = (new.index ≡ old.index) × IsSamePass old.pass new.pass
 
--- The last that the hand has done is this post, which has done what its answer means with the hint beside it. Where there was no room, it
--- was refused what the post lacks.
-pub record HasPosted (hand : Hand PassState) (level key : ℕ) (what : Posted) (next : Option Hint) : Type 0 where
-  pub before : Trail
-  pub posts : Posts (known hand.seat).first hand.number level key what next before (known hand.seat).trail
-  pub no_room : what ≡ posted.NoRoom → LacksPost level key hand.seat
+-- The same pieces of upkeep wait.
+abbrev pub KeepsUpkeep : Seat → Seat → Type 0
+KeepsUpkeep old new = new.waiting ≡ old.waiting
 
--- What the hint asks for is done, and was answered so: it was a post.
-abbrev pub HasFollowed : Hand PassState → Hint → Answer → Type 0
-HasFollowed hand (hint.Post level key) (answers.Post what next) = HasPosted hand level key what next
-HasFollowed hand asked answer = ⊥
+-- both are at one index
+abbrev pub AreOfOne : Seat → Seat → Type 0
+AreOfOne one two = arc_value two.index ≡ arc_value one.index
 
--- A search took as many turns as the index has pages, and was not answered.
-abbrev pub HasRunOut : Index → Hand PassState → Hand PassState → Type 0
-HasRunOut index old new = RunsOut (known old.seat).first (pages_of index) old.number (pages_of index) (known old.seat).trail (known new.seat).trail
+-- A search was answered so, by as many gets as the index has pages at most.
+abbrev pub HasFound : Op → Reply → Seat → Seat → Type 0
+HasFound op reply old new = Finds (first_of_seat old) (pages_of_seat old) (seat_number old) (pages_of_seat old) op reply (seen_at old) (seen_at new)
 
--- Something is underway, and nothing was done; or a search ran out of turns.
-abbrev pub HasNotFound : Index → Running → Hand PassState → Hand PassState → Type 0
-HasNotFound index s old new = ((s ≢ at_seat.Rests) × (new ≡ old)) ⊎ HasRunOut index old new
+-- It was not, after as many gets. Nothing of it is left.
+abbrev pub HasRunOut : Seat → Seat → Type 0
+HasRunOut old new = RunsOut (first_of_seat old) (pages_of_seat old) (seat_number old) (pages_of_seat old) (seen_at old) (seen_at new)
 
--- how many processes the hand has begun
-abbrev pub begun_in : Hand PassState → ℕ
-begun_in hand = (known hand.seat).number
+-- A range was read, as it was at one moment.
+abbrev pub HasRead : ℕ → Option ℕ → List (ℕ × ℕ) → Seat → Seat → Type 0
+HasRead from to rows old new =
+    ReadsRange (first_of_seat old) (pages_of_seat old) (seat_number old) (pages_of_seat old) from to rows (seen_at old) (seen_at new)
 
--- The hand rests; or what was underway is so still, after 256 more events of it and at most 64 beside until it holds no page. A post or a
--- lowering may hold one then, after all 64.
-abbrev pub HasWorked : Hand PassState → Running → Hand PassState → Type 0
-HasWorked old s new = (s ≡ at_seat.Rests) ⊎ HasTurnedIn 256 (known old.seat) (known new.seat) s
+-- It was not, for that reason.
+abbrev pub HasStopped : ℕ → Option ℕ → ℕ → RangeFault → Seat → Seat → Type 0
+HasStopped from to rounds fault old new =
+    StopsRange (first_of_seat old) (pages_of_seat old) (seat_number old) (pages_of_seat old) rounds from to fault (seen_at old) (seen_at new)
 
--- the reply of an operation of the map
-abbrev pub reply_in : Answer → Option Reply
-reply_in (answers.Op reply hint) = Some reply
-reply_in other = None
+-- A write was answered so, as the same call of the map. Where there was no room, what it wanted is what the pass was refused last.
+pub record HasWritten (key : ℕ) (write : KeyWrite) (reply : Reply) (old new : Seat) : Type 0 where
+  pub works : Works (first_of_seat old) (seat_number old) (write_op key write) reply (seen_at old) (seen_at new)
+  pub writes : WritesAtOnce (first_of_seat old) (seat_number old) (write_op key write) reply old.waiting new.waiting (seen_at old) (seen_at new)
+  pub no_room : reply ≡ replies.NoRoom → FoundNoRoom key write old.pass new.pass
 
--- Of what was underway a write of a key has answered that, where it has ended. Of anything else nothing is said.
-abbrev pub IfWritten : Hand PassState → ℕ → KeyWrite → Option Answer → Type 0
-IfWritten hand key write (Some (answers.Op reply hint)) = HasWritten hand key write reply hint
-IfWritten hand key write other = Unit {0}
+-- It has not been done, and nothing of it is left: the seat has added no entry, and a seat that is alone has the map as it was. It looked for
+-- room, and then it was refused, or gave up.
+pub record HasNotWritten (old new : Seat) : Type 0 where
+  pub adds : Adds (first_of_seat old) (seat_number old) (seen_at old) (seen_at new)
+  pub alone : StaysAlone (first_of_seat old) (arc_value old.index) (seen_at old) (seen_at new)
+  pub none : WritesNone (first_of_seat old) (seat_number old) (IsRefused old.walk new.walk) old.waiting new.waiting (seen_at old) (seen_at new)
 
-abbrev pub HasAnswered : Hand PassState → Running → Option Answer → Type 0
-HasAnswered hand (at_seat.Writes p held) answer = IfWritten hand p.key p.write answer
-HasAnswered hand other answer = Unit {0}
+-- Upkeep was done, so many pieces of it, and then the seat has given back what was swapped out.
+pub record HasKeptUp (most : ℕ) (old new : Seat) : Type 0 where
+  pub mid : Trail
+  pub keeps : KeepsUp (first_of_seat old) (seat_number old) most old.waiting new.waiting (seen_at old) mid
+  pub sweeps : Swept (first_of_seat old) (seat_number old) mid (seen_at new)
+  pub swept : AllSwept new.pass
 
--- Something was underway, and nothing is done; or the hand has swept once, and was answered how many pages and frames are released.
-abbrev pub HasReleased : ℕ → Running → Hand PassState → Hand PassState → Type 0
-HasReleased answer at_seat.Rests old new =
-    Sweeps (known old.seat).first old.number answer (known old.seat).trail (known new.seat).trail × HasSweptOnce old new
-HasReleased answer other old new = (answer ≡ 0) × (new ≡ old)
+-- Nothing is left to do.
+abbrev pub IsDone : Seat → Type 0
+IsDone seat = HasNothingToDo seat.walk seat.waiting
+
+-- Two seats have met: both have seen one trail, which the index may have. It begins with what each of them had seen, and has no further
+-- entry of either.
+abbrev pub HaveMet : Seat → Seat → Seat → Seat → Type 0
+HaveMet one two one' two' = Meet (first_of_seat one) (seat_number one) (seat_number two) (seen_at one) (seen_at two) (seen_at one') (seen_at two')

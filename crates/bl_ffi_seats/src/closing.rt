@@ -1,15 +1,12 @@
 //! An index is closed by all its seats.
 
-ghost use Rattle.std.specs.Prelude.{◌≡◌, ℕ, ◌<◌, ◌≤◌, true, false, [], All, length, map, vec_capacity, IfOk, IfErr};
-ghost use Rattle.std.specs.Arc.{arc_value};
-ghost use Rattle.std.specs.List.{AllZip};
-ghost use Rattle.bl_ffi_seats.specs.Closed.{values, AreAtOne, HasSeat, IsFor, HaveSettled, AllRest, IsOneUnderway, HaveClosed, IsNotPrepared, IsNotClosed, AreShut};
+ghost use Rattle.std.specs.Prelude.{◌≡◌, ℕ, ◌<◌, ◌≤◌, true, false, IfOk, IfErr};
+ghost use Rattle.bl_ffi_seats.specs.Closed.{values, AreAtOne, HasSeat, IsFor, HaveClosed, IsNotPrepared, IsNotClosed};
 ghost use Rattle.bl_ffi_seats.specs.declared.closing.CloseFault.TheVariants as fault;
 
 use crate::seat::Seat;
 use bl_check::Quiet;
 use bl_index::{CloseRoom, Index};
-use bl_index_resume::stands;
 use bl_index_rule::PassState;
 use bl_store::Hand;
 use std::alloc::Global;
@@ -18,8 +15,6 @@ use std::sync::Arc;
 /// Why an index was not closed.
 #[derive(Clone, Copy, Debug, PartialEq, Eq)]
 pub enum CloseFault {
-    /// Something is underway at a seat. The call is to be made again.
-    Underway,
     /// A seat of the index is not among them.
     Missing,
     /// Somebody else has a share of the index.
@@ -44,7 +39,7 @@ fn has_seat(seats: &[Box<Seat, Global>], number: u32) -> bool
     ensures no { result ≡ false → ¬ HasSeat (values seats.now) number }
 {
     for seat in seats {
-        if seat.hand.number() == number {
+        if seat.pass.number() == number {
             return true;
         }
     }
@@ -91,29 +86,11 @@ fn prepare(alloc: Global, seats: &[Box<Seat, Global>]) -> Result<Prepared, Close
     }
 }
 
-/// What is underway at the seats goes on. Says whether all rest.
-fn settle_all(seats: &mut [Box<Seat, Global>]) -> bool
-    ensures settled { HaveSettled (values seats.old) (values seats.new) }
-    ensures rest { result ≡ true → AllRest (values seats.new) }
-    ensures underway { result ≡ false → IsOneUnderway (values seats.new) }
-{
-    let mut rest = true;
-    for number in 0..seats.len() {
-        let seat = &mut seats[number];
-        seat.settle();
-        if !seat.is_at_rest() {
-            rest = false;
-        }
-    }
-    rest
-}
-
 /// The seats go, and their hands close the index. Somebody else cannot have a share of it, since all its seats are there, but no clause of
 /// `Arc` says so. Where somebody had, the seats could not come back: a share for each is more than `Arc` promises.
 fn shut(seats: Vec<Box<Seat, Global>>, prepared: Prepared) -> Result<Quiet, CloseFault>
-    requires prepared { IsFor (values seats.items) prepared }
-    requires rest { AllRest (values seats.items) }
-    ensures ok { IfOk result (λ quiet. AreShut (values seats.items) quiet.image.pages.items) }
+    requires { IsFor (values seats.items) prepared }
+    ensures ok { IfOk result (λ quiet. HaveClosed (values seats.items) quiet.image.pages.items) }
     ensures fault { IfErr result (λ why. why ≡ fault.Lost) }
 {
     let Prepared {
@@ -123,10 +100,8 @@ fn shut(seats: Vec<Box<Seat, Global>>, prepared: Prepared) -> Result<Quiet, Clos
     } = prepared;
     let mut seats = seats;
     while !seats.is_empty() {
-        let seat = Box::into_inner(seats.remove(0));
-        stands(index.tree(), &seat.hand, &seat.running);
-        let Seat { hand, .. } = seat;
-        hands.push_reserved(hand);
+        let Seat { pass, .. } = Box::into_inner(seats.remove(0));
+        hands.push_reserved(pass.into_hand());
     }
     match Arc::try_unwrap(index) {
         Ok(index) => Ok(index.close_hands(hands, room)),
@@ -135,8 +110,8 @@ fn shut(seats: Vec<Box<Seat, Global>>, prepared: Prepared) -> Result<Quiet, Clos
 }
 
 /// Closes an index by all its seats: the image of its pages, which is sound, and whose rows are the map after all that has happened. Else the
-/// seats come back: what was underway at them has gone on where something is underway still, and they are as they were where one of them
-/// is missing, somebody else has a share of the index, or there is no memory. They are gone where it says so.
+/// seats come back as they were: one of them is missing, somebody else has a share of the index, or there is no memory. They are gone where
+/// it says so.
 pub fn close(
     alloc: Global,
     seats: Vec<Box<Seat, Global>>,
@@ -145,14 +120,10 @@ pub fn close(
     ensures ok { IfOk result (λ quiet. HaveClosed (values seats.items) quiet.image.pages.items) }
     ensures fault { IfErr result (λ t. IsNotClosed (values seats.items) (values t.0.items) t.1) }
 {
-    let mut seats = seats;
     let prepared = match prepare(alloc, seats.as_slice()) {
         Ok(prepared) => prepared,
         Err(why) => return Err((seats, why)),
     };
-    if !settle_all(&mut seats) {
-        return Err((seats, CloseFault::Underway));
-    }
     match shut(seats, prepared) {
         Ok(quiet) => Ok(quiet),
         Err(why) => Err((Vec::new(alloc), why)),

@@ -9,10 +9,11 @@ ghost use Rattle.bl_index.specs.Calls.{IsPassOf};
 ghost use Rattle.bl_index.specs.Opened.{IsLargeRefusal};
 ghost use Rattle.bl_ffi_seats.specs.Opened.{AreSeatsOf, AreSeatsOpened, AreReopened, AreReopenedIn, IsFaultFor, IsImageFault, IsLargerFault, IsNewSeat};
 
-use crate::seat::{Seat, Upkeep};
+use crate::seat::Seat;
 use bl_check::{Fault, Quiet, load};
 use bl_index::{Config, Index, OpenFault, Pass};
-use bl_index_resume::Running;
+use bl_map_calls::walking::Walk;
+use bl_waiting::Waiting;
 use std::alloc::{AllocError, Global};
 use std::sync::Arc;
 
@@ -142,8 +143,8 @@ fn seat_of(index: Arc<Index, Global>, pass: Pass) -> Seat
 {
     Seat {
         index,
-        hand: pass.into_hand(),
-        running: Running::Rests,
-        upkeep: Upkeep::new(),
+        pass,
+        waiting: Waiting::new(),
+        walk: Walk::new(),
     }
 }

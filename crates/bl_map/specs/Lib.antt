@@ -1,3 +1,5 @@
 pub mod Handles
 pub mod Meetings
 pub mod Maps
+pub mod Stamps
+pub mod Shrunk

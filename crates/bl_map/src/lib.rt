@@ -12,6 +12,9 @@
 //! else; or it found no room and waits, or was left behind twelve others and waits; or 32 pieces wait already, and it is dropped and
 //! counted. No other call of a handle loses a piece that waits.
 //!
+//! Threads that hand anything to one another pass a [`Stamp`] along: a handle stamps it, and whoever heeds it has seen all that this
+//! handle had seen. So its calls from then on stand behind those of that handle in the one history ([`stamps_keep_order`]).
+//!
 //! Who has an index of his own and shares its upkeep out, as the server does, has handles over its seats ([`handles_over`],
 //! [`give_seats`], [`meet_all`]), which write and leave what is to be done, and follow it, one piece a call.
 #![tactic(auto)]
@@ -20,6 +23,8 @@ mod handle;
 mod map;
 mod meeting;
 mod seating;
+mod shrinking;
+mod stamping;
 
 pub use bl_index::{
     CloseFault, Hint, KeyReply, KeyWrite, Next, OpenFault, Pass as Seat, Reply, ResizeFault,
@@ -33,3 +38,5 @@ pub use handle::{Backlog, Handle};
 pub use map::{Map, MapLoadFault, UnresizedMap};
 pub use meeting::meet_all;
 pub use seating::{give_seats, handles_over};
+pub use shrinking::{UnshrunkMap, shrinking_adds_a_life};
+pub use stamping::{Stamp, stamps_keep_order};

@@ -2,8 +2,10 @@
 
 ghost use Rattle.std.specs.Prelude.{◌≡◌, IfOk, IfErr};
 ghost use Rattle.bl_map.specs.Maps.{IsSeatOf, AreSeatsOf, IsNewHandle, IsMapOpened, IsOpenFault, IsMapReopened, IsImageFault, IsLoaded, IsLoadFault, IsClosed, IsBack, IsMapResized, IsMapNotResized};
+ghost use Rattle.bl_map.specs.Stamps.{IsNewStamp};
 
 use crate::handle::Handle;
+use crate::stamping::Stamp;
 use bl_check::Quiet;
 use bl_index::{CloseFault, Config, Index, OpenFault, Pass, ResizeFault, Unresized};
 use bl_load::{LoadFault, image_of};
@@ -105,6 +107,14 @@ impl Map {
         ensures { IsNewHandle self.now seat result }
     {
         Handle::over(&self.index, seat)
+    }
+
+    /// A stamp, which threads pass along with what they hand to one another. It takes a seat of this map.
+    pub fn stamp(&self, seat: Pass) -> Stamp<'_>
+        requires { IsSeatOf self.now seat }
+        ensures { IsNewStamp self.now seat result }
+    {
+        Stamp::over(&self.index, seat)
     }
 
     /// Closes the map: a sound image, whose rows are those of the map after all that has happened. It takes all seats. Where one is

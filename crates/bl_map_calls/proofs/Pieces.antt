@@ -41,7 +41,7 @@ tried_adds first pass h result old new (HasNotLowered {answer = answer} {mid = m
 
 pub next_adds : (first : List (Option Page)) (pass : ℕ) (result : Option Followed) (before after : Waiting) (old new : Trail) → TriesNext first pass result before after old new → Adds first pass old new
 next_adds first pass result before after old new (NothingWaits none) = nothing first pass old
-next_adds first pass result before after old new (OldestTried {hint = h} taken t kept) = tried_adds first pass h result old new t
+next_adds first pass result before after old new (OldestTried {hint = h} others taken t kept) = tried_adds first pass h result old new t
 
 pub pieces_add : (first : List (Option Page)) (pass most : ℕ) (before after : Waiting) (old new : Trail) → TriesPieces first pass most before after old new → Adds first pass old new
 pieces_add first pass most before after old new AsManyDone = nothing first pass old
@@ -178,7 +178,7 @@ mended_one first pass it m h result left before waiting after old mid new same i
 pub oldest_tried : (first : List (Option Page)) (pass : ℕ) (h : Hint) (taken left : Option Hint) (result : Option Followed) (before others after : Waiting) (old new : Trail) → taken ≡ Some h → left ≡ left_of (Some h) result
     → IsTaken taken before others → TriesHint first pass h result old new → IsKept left others after → TriesNext first pass result before after old new
 oldest_tried first pass h taken left result before others after old new is so t tried kept =
-    OldestTried (subst (λ (z : Option Hint). IsTaken z before others) is t) tried (subst (λ (z : Option Hint). IsKept z others after) so kept)
+    OldestTried others (subst (λ (z : Option Hint). IsTaken z before others) is t) tried (subst (λ (z : Option Hint). IsKept z others after) so kept)
 
 pub nothing_tried : (first : List (Option Page)) (pass : ℕ) (taken : Option Hint) (before others : Waiting) (old : Trail) → taken ≡ None → IsTaken taken before others → TriesNext first pass (Some (followed.Done None)) before others old old
 nothing_tried first pass taken before others old is t =

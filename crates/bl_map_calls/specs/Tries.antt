@@ -58,7 +58,7 @@ left_of otherwise None = otherwise
 -- done.
 pub data TriesNext (first : List (Option Page)) (pass : ℕ) : Option Followed → Waiting → Waiting → Trail → Trail → Type 0 where
   NothingWaits : {waiting : Waiting} {old : Trail} → hints_of waiting ≡ [] → TriesNext first pass (Some (followed.Done None)) waiting waiting old old
-  OldestTried : {hint : Hint} {result : Option Followed} {before others after : Waiting} {old new : Trail} → IsTaken (Some hint) before others
+  OldestTried : {hint : Hint} {result : Option Followed} {before after : Waiting} {old new : Trail} (others : Waiting) → IsTaken (Some hint) before others
       → TriesHint first pass hint result old new → IsKept (left_of (Some hint) result) others after → TriesNext first pass result before after old new
 
 -- whether a piece that was tried is done

@@ -96,6 +96,7 @@ fn try_compressing(index: &Index, pass: &mut Pass, hint: Hint) -> Option<Followe
     ensures tries { TriesHint (first_of index.now) (number_of pass.old) hint result (trail pass.old) (trail pass.new) }
 {
     release(index, pass, Want::Frames);
+    let piece = hint;
     let Some((squeezed, more)) = index.try_compress(pass, hint, index.patience()) else {
         return None;
     };
@@ -105,7 +106,7 @@ fn try_compressing(index: &Index, pass: &mut Pass, hint: Hint) -> Option<Followe
     if try_lowering(index, pass, may_fall(squeezed)) {
         return Some(Followed::Done(more));
     }
-    Some(Followed::Done(left_behind(more, hint)))
+    Some(Followed::Done(left_behind(more, piece)))
 }
 
 /// Tries a piece of upkeep: posts or compresses, as it asks. None: it was given up.
@@ -121,11 +122,11 @@ fn try_hint(index: &Index, pass: &mut Pass, hint: Hint) -> Option<Followed>
 }
 
 /// What is left of a piece that was tried.
-fn left_of(otherwise: Option<Hint>, tried: Option<Followed>) -> Option<Hint>
-    ensures { result ≡ left_of otherwise tried }
+fn left_of(otherwise: Option<Hint>, tried: &Option<Followed>) -> Option<Hint>
+    ensures { result ≡ left_of otherwise tried.now }
 {
     match tried {
-        Some(Followed::Done(next)) => next,
+        Some(Followed::Done(next)) => *next,
         Some(Followed::NoRoom) => otherwise,
         None => otherwise,
     }
@@ -142,8 +143,9 @@ pub fn try_follow(index: &Index, pass: &mut Pass, waiting: &mut Waiting) -> Opti
     let Some(hint) = waiting.take() else {
         return Some(Followed::Done(None));
     };
+    let piece = hint;
     let tried = try_hint(index, pass, hint);
-    waiting.keep(left_of(Some(hint), tried));
+    waiting.keep(left_of(Some(piece), &tried));
     tried
 }
 
@@ -207,7 +209,7 @@ fn mend_some(
             return;
         };
         let tried = mend(index, pass, walk, hint);
-        waiting.keep(left_of(None, tried));
+        waiting.keep(left_of(None, &tried));
     }
 }
 
@@ -342,6 +344,16 @@ fn look_where_dropped(index: &Index, pass: &mut Pass, waiting: &mut Waiting, wal
     look_on(index, pass, waiting, walk, Extent::Whole);
 }
 
+/// Whether nothing is left to do.
+fn has_nothing_to_do(walk: &Walk, waiting: &Waiting) -> bool
+    ensures { result ≡ true ↔ HasNothingToDo walk.now waiting.now }
+{
+    if walk.is_due(waiting) {
+        return false;
+    }
+    waiting.is_empty()
+}
+
 /// Does upkeep: tries pieces that wait, so many at most; and where none waits any more and some were dropped, looks at some pages for such
 /// as are thin. Says whether nothing is left to do.
 pub fn try_upkeep(
@@ -359,5 +371,5 @@ pub fn try_upkeep(
 {
     try_pieces(index, pass, waiting, most);
     look_where_dropped(index, pass, waiting, walk);
-    waiting.is_empty() && !walk.is_due(waiting)
+    has_nothing_to_do(walk, waiting)
 }

@@ -9,7 +9,7 @@ use Rattle.bl_model.specs.Map.{Map}
 use Rattle.bl_serve_lines.specs.declared.serving.Sectioning.TheVariants.{BySync, AtMost}
 use Rattle.bl_serve_lines.specs.declared.serving.Totals.{Totals}
 use Rattle.bl_serve_lines.specs.Lines.{Answer, Line, Replied, Added, Scanned, Stated, Synced, Malformed, entries}
-use Rattle.bl_serve_lines.specs.Served.{Interleaves, Section, HasNoEnd, IsFinished, Served, lines_of, history_of, syncs_of, whole_history}
+use Rattle.bl_serve_lines.specs.Served.{Interleaves, Section, HasNoEnd, IsFinished, Served, lines_of, history_of, syncs_of, whole_history, entries_in, LinesAloneKeepOrder}
 use Rattle.bl_serve_lines.specs.Served.Interleaves.{Done, Takes}
 
 -- ---- each line is a section
@@ -32,9 +32,6 @@ no_lines : (lines : List Line) → HasNoEnd (AtMost 1) lines → lines ≡ []
 no_lines [] h = refl
 no_lines (line ∷ lines) h = let short = h.1 in absurd (omega (arith, short))
 
-abbrev entries_in : List Line → List Entry
-entries_in lines = flat_map (λ line. entries line.answer) lines
-
 one_section : (pages : ℕ × ℕ) (section : Section) → IsFinished (AtMost 1) pages section → section.history ≡ entries_in section.lines
 one_section pages section f =
     let alone : section.lines ≡ f.end ∷ [] = f.lines ∙ ap (λ (z : List Line). z ++ f.end ∷ []) (no_lines f.front f.no_end) in
@@ -49,8 +46,8 @@ all_sections pages (s ∷ ss) each = flat_map-cons (λ (x : Section). x.history)
     ∙ (sym (flat_map-append (λ (l : Line). entries l.answer) s.lines (lines_of ss)) ∙ ap entries_in (sym (flat_map-cons (λ (x : Section). x.lines) s ss)))))
 
 -- the history has the entries of the lines in their order
-pub in_line_order : {pages : ℕ × ℕ} {start : Map} {input output : List ℕ} {totals : Totals} (s : Served (AtMost 1) pages start input output totals) → whole_history s ≡ entries_in (lines_of s.sections ++ s.last.lines)
-in_line_order {pages} s =
+pub in_line_order : LinesAloneKeepOrder
+in_line_order pages start input output totals s =
     let none = no_lines s.last.lines s.no_end in
     ap (λ (z : List Entry). history_of s.sections ++ z) (of_none s.whole.history (ap (map (λ (l : Line). entries l.answer)) none))
     ∙ (append-nil (history_of s.sections) ∙ (all_sections pages s.sections s.each ∙ ap entries_in (sym (ap (λ (z : List Line). lines_of s.sections ++ z) none ∙ append-nil (lines_of s.sections)))))

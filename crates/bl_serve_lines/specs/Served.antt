@@ -149,6 +149,15 @@ pub record Stopped (how : Sectioning) (pages : ℕ × ℕ) (start : Map) (input 
 abbrev pub whole_history : {how : Sectioning} {pages : ℕ × ℕ} {start : Map} {input output : List ℕ} {totals : Totals} → Served how pages start input output totals → List Entry
 whole_history served = history_of served.sections ++ served.last.history
 
+-- the entries of lines, one line after another
+abbrev pub entries_in : List Line → List Entry
+entries_in lines = flat_map (λ line. entries line.answer) lines
+
+-- Where each line is a section, the history has the entries of the lines in their order.
+abbrev pub LinesAloneKeepOrder : Type 0
+LinesAloneKeepOrder = (pages : ℕ × ℕ) (start : Map) (input output : List ℕ) (totals : Totals) (s : Served (AtMost 1) pages start input output totals)
+    → whole_history s ≡ entries_in (lines_of s.sections ++ s.last.lines)
+
 -- a read fault comes only from a reader that has failed, and a write fault from such a writer
 abbrev pub ComesFrom : ServeFault → Type 0 → Type 0 → Type 0
 ComesFrom Read reader_failed writer_failed = reader_failed

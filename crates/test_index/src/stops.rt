@@ -1,6 +1,6 @@
 //! Processes that stand still in the middle: a deletion that holds its leaf while another waits for that leaf and an insertion into
-//! another one goes on, a search that has a page in mind while that is merged away and sweeps go on beside it, and two writes of one
-//! leaf that go on in turns on one thread. They go by the events of a process, which a caller of `bl_index` does not see.
+//! another one goes on, a search that has a page in mind while that is merged away and sweeps go on beside it, and calls that may not wait
+//! beside a write that holds a leaf. They go by the events of a process, which a caller of `bl_index` does not see.
 
 pub(crate) mod begun;
 mod searching;

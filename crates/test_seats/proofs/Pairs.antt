@@ -8,7 +8,7 @@ use Rattle.bl_ffi_seats.specs.declared.seat.Seat.{Seat}
 use Rattle.bl_ffi_seats.specs.Opened.{IsNewSeat}
 
 pub last_at : (index : Index) (passes : List Pass) (seats : List Seat) (last : Seat) → AllZip (IsNewSeat index) passes (seats ++ last ∷ []) → arc_value last.index ≡ index
-last_at index (p ∷ ps) [] last h = h.0.at
+last_at index (p ∷ ps) [] last h = h.0.0
 last_at index (p ∷ ps) (s ∷ ss) last h = last_at index ps ss last h.1
 last_at index [] [] last h = absurd h
 last_at index [] (s ∷ ss) last h = absurd h

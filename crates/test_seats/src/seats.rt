@@ -6,8 +6,8 @@ ghost use Rattle.bl_ffi_seats.specs.Meetings.{AreOfOne};
 ghost use Rattle.bl_index_read.specs.LeafRows.{IsBelow};
 
 use bl_ffi_seats::{
-    CloseFault, ImageFault, KeyReply, KeyWrite, Next, OpenFault, Reply, Seat, close, open,
-    open_image, open_larger,
+    CloseFault, Direction, ImageFault, KeyReply, KeyWrite, Next, OpenFault, Reply, Seat, close,
+    open, open_image, open_larger,
 };
 use bl_image::image_length;
 use std::alloc::Global;
@@ -23,7 +23,7 @@ fn opened(alloc: Global, pages: u32) -> Option<Seat> {
 
 /// Whether a write is answered so.
 fn is_written(seat: &mut Seat, key: u64, write: KeyWrite, wanted: KeyReply) -> bool {
-    seat.write(key, write) == Some(wanted.reply())
+    seat.write(key, write) == Some(wanted)
 }
 
 /// Writes of keys, and what a seat alone answers to each at once.
@@ -67,7 +67,7 @@ fn a_row_comes_and_goes(rt: HostRuntime) {
 fn insert_many(seat: &mut Seat, count: u64) -> u64 {
     let mut inserted = 0u64;
     for key in 0..count {
-        if seat.write(key, KeyWrite::Insert(key)) == Some(Reply::Inserted) {
+        if seat.write(key, KeyWrite::Insert(key)) == Some(KeyReply::Inserted) {
             inserted = inserted.saturating_add(1);
         }
     }
@@ -80,7 +80,7 @@ fn count_rows(seat: &mut Seat) -> u64 {
     let mut at = 0;
     let mut near = None;
     for _part in 0..MANY {
-        let Some(Reply::Rows(rows, next)) = seat.part(at, &mut near) else {
+        let Some(Reply::Rows(rows, next)) = seat.part(Direction::Up, at, &mut near) else {
             return 0;
         };
         count = count.saturating_add(rows.len() as u64);
@@ -96,7 +96,7 @@ fn count_rows(seat: &mut Seat) -> u64 {
 fn parts_tell_all(seat: &mut Seat) -> bool {
     insert_many(seat, MANY) == MANY
         && count_rows(seat) == MANY
-        && seat.tend(64)
+        && seat.upkeep(64)
         && seat.waiting() == 0
         && seat.dropped() == 0
 }
@@ -105,16 +105,15 @@ fn parts_tell_all(seat: &mut Seat) -> bool {
 fn parts_tell_all_rows(rt: HostRuntime) {
     let mut seat = opened(rt.alloc(), 1_024).expect(&rt, "it is opened");
     assert!(rt; parts_tell_all(&mut seat));
-    seat.sweep();
 }
 
 /// Whether there is nothing to do in an empty index, nor when what many rows left was done.
 fn upkeep_ends(seat: &mut Seat) -> bool {
-    if !seat.tend(0) || insert_many(seat, MANY) != MANY {
+    if !seat.upkeep(0) || insert_many(seat, MANY) != MANY {
         return false;
     }
-    seat.tend(1_024);
-    seat.tend(0) && seat.waiting() == 0
+    seat.upkeep(1_024);
+    seat.upkeep(0) && seat.waiting() == 0
 }
 
 #[test]
@@ -123,27 +122,26 @@ fn upkeep_comes_to_its_end(rt: HostRuntime) {
     assert!(rt; upkeep_ends(&mut seat));
 }
 
-/// How many pages and frames four sweeps release. With 64 pages a seat has 136 frames, and so many sweeps look at all of them.
-fn released_by_sweeps(seat: &mut Seat) -> u32 {
-    let mut released = 0u32;
-    for _ in 0..4 {
-        released = released.saturating_add(seat.sweep());
-    }
-    released
+/// How many frames are free, of 136 that a seat alone has with 64 pages.
+fn free_frames(seat: &Seat) -> u32 {
+    seat.room().free_frames
 }
 
-/// Whether sweeps release what a write has swapped out, once.
-fn sweeps_once(seat: &mut Seat) -> bool {
-    released_by_sweeps(seat) == 0
-        && is_written(seat, 1, KeyWrite::Insert(10), KeyReply::Inserted)
-        && released_by_sweeps(seat) == 1
-        && released_by_sweeps(seat) == 0
+/// Whether upkeep gives back what a write has swapped out: its leaf has a frame and gets another one.
+fn gives_back(seat: &mut Seat) -> bool {
+    let before = free_frames(seat);
+    if !is_written(seat, 1, KeyWrite::Insert(10), KeyReply::Inserted) {
+        return false;
+    }
+    let meanwhile = free_frames(seat);
+    seat.upkeep(0);
+    meanwhile < before && free_frames(seat) == before
 }
 
 #[test]
-fn a_seat_releases_what_was_swapped_out(rt: HostRuntime) {
+fn a_seat_gives_back_what_was_swapped_out(rt: HostRuntime) {
     let mut seat = opened(rt.alloc(), 64).expect(&rt, "it is opened");
-    assert!(rt; sweeps_once(&mut seat));
+    assert!(rt; gives_back(&mut seat));
 }
 
 /// Whether a part has these rows, and goes to the end of the map.
@@ -158,7 +156,7 @@ fn is_last(part: Option<Reply>, wanted: &[(u64, u64)]) -> bool {
 fn a_part_has_the_rows_from_its_key_on(rt: HostRuntime) {
     let mut seat = opened(rt.alloc(), 64).expect(&rt, "it is opened");
     let count = insert_many(&mut seat, 5);
-    let part = seat.part(3, &mut None);
+    let part = seat.part(Direction::Up, 3, &mut None);
     assert!(rt; count == 5 && is_last(part, &[(3, 3), (4, 4)]));
 }
 
@@ -167,8 +165,8 @@ fn ranged(alloc: Global, seat: &mut Seat, from: u64, to: Option<u64>) -> Vec<(u6
     requires { IsBelow to from }
 {
     match seat.range(alloc, from, to, 0) {
-        Some(Ok(rows)) => rows,
-        _ => Vec::new(alloc),
+        Ok(rows) => rows,
+        Err(_) => Vec::new(alloc),
     }
 }
 
@@ -185,7 +183,7 @@ fn a_range_has_the_rows_between_its_keys(rt: HostRuntime) {
 fn a_part_downwards_has_the_rows_up_to_its_key(rt: HostRuntime) {
     let mut seat = opened(rt.alloc(), 64).expect(&rt, "it is opened");
     let count = insert_many(&mut seat, 5);
-    let part = seat.part_down(3);
+    let part = seat.part(Direction::Down, 3, &mut None);
     assert!(rt; count == 5 && is_last(part, &[(3, 3), (2, 2), (1, 1), (0, 0)]));
     // The anchor and one leaf are not free.
     assert!(rt; seat.free_pages() == 62);
@@ -196,7 +194,7 @@ fn count_rows_down(seat: &mut Seat, from: u64) -> u64 {
     let mut count = 0u64;
     let mut at = from;
     for _part in 0..MANY {
-        let Some(Reply::Rows(rows, next)) = seat.part_down(at) else {
+        let Some(Reply::Rows(rows, next)) = seat.part(Direction::Down, at, &mut None) else {
             return 0;
         };
         count = count.saturating_add(rows.len() as u64);
@@ -274,9 +272,9 @@ fn two_seats_see_one_index(rt: HostRuntime) {
 fn seats_meet(rt: HostRuntime) {
     let (mut one, mut two) = two_of_one(rt.alloc()).expect(&rt, "there are two");
     let reply = one.write(1, KeyWrite::Insert(10));
-    let have_met = one.meet(&mut two);
+    one.meet(&mut two);
     let found = two.find(1);
-    assert!(rt; reply == Some(Reply::Inserted) && have_met && found == Some(KeyReply::Found(10)));
+    assert!(rt; reply == Some(KeyReply::Inserted) && found == Some(KeyReply::Found(10)));
     assert!(rt; one.pages() == 64);
 }
 
@@ -337,7 +335,7 @@ const LIVING: u64 = 1_222;
 const INSERTIONS: u64 = 12_000;
 
 /// Writes a key, and makes the call again while it is to be made again, so often at most.
-fn written(seat: &mut Seat, key: u64, write: KeyWrite) -> Option<Reply> {
+fn written(seat: &mut Seat, key: u64, write: KeyWrite) -> Option<KeyReply> {
     for _call in 0..4_096 {
         let reply = seat.write(key, write);
         if reply.is_some() {
@@ -352,9 +350,9 @@ fn moved_in_vain(seat: &mut Seat) -> u64 {
     let mut wrong = 0u64;
     for key in 0..INSERTIONS + LIVING {
         let new = key >= INSERTIONS
-            || written(seat, key, KeyWrite::Insert(key)) == Some(Reply::Inserted);
+            || written(seat, key, KeyWrite::Insert(key)) == Some(KeyReply::Inserted);
         let old = key < LIVING
-            || written(seat, key - LIVING, KeyWrite::Delete) == Some(Reply::Deleted(key - LIVING));
+            || written(seat, key - LIVING, KeyWrite::Delete) == Some(KeyReply::Deleted(key - LIVING));
         if !new || !old {
             wrong = wrong.saturating_add(1);
         }
@@ -366,7 +364,7 @@ fn moved_in_vain(seat: &mut Seat) -> u64 {
 fn filled(seat: &mut Seat) -> u64 {
     let mut inserted = 0u64;
     for key in 0..1_528 {
-        if written(seat, key, KeyWrite::Insert(key)) == Some(Reply::Inserted) {
+        if written(seat, key, KeyWrite::Insert(key)) == Some(KeyReply::Inserted) {
             inserted = inserted.saturating_add(1);
         }
     }
@@ -375,7 +373,7 @@ fn filled(seat: &mut Seat) -> u64 {
 
 /// Whether a window moves, leaves nothing to do, and room for the rows that surely fit.
 fn window_moves(seat: &mut Seat) -> bool {
-    moved_in_vain(seat) == 0 && seat.tend(4_096) && seat.waiting() == 0 && filled(seat) == 1_528
+    moved_in_vain(seat) == 0 && seat.upkeep(4_096) && seat.waiting() == 0 && filled(seat) == 1_528
 }
 
 #[test]

@@ -165,7 +165,7 @@ static bool shim_again(shim_map *map, uint32_t pages, int32_t answer, int64_t fr
 static int32_t shim_open(uint32_t pages, uint32_t most, uint32_t count, const uint8_t *image, size_t length,
                          shim_map **made) {
     shim_map *map;
-    blink_stats stats = { 0, 0, 0, 0 };
+    blink_stats stats = { 0, 0, 0, 0, 0, 0, 0 };
     int32_t answer;
     if (count < 1 || count > 64) return BLINK_BAD_SEATS;
     map = calloc(1, sizeof *map);
@@ -179,7 +179,7 @@ static int32_t shim_open(uint32_t pages, uint32_t most, uint32_t count, const ui
         free(map);
         return answer;
     }
-    blink_stat(&map->seats[0], &stats);
+    blink_stat(&map->seats[0], false, &stats);
     map->pages = (uint32_t)stats.pages;
     map->most = most > map->pages ? most : map->pages;
     map->count = count;
@@ -376,7 +376,7 @@ static uint64_t shim_kept(const shim_map *map, uint8_t **bytes) {
 
 /* How many pages are free, about, or -1 where the map is closed. */
 static int64_t shim_free_pages(shim_map *map) {
-    blink_stats stats = { 0, 0, 0, 0 };
-    SHIM_CALL(map, answer = blink_stat(seat, &stats))
+    blink_stats stats = { 0, 0, 0, 0, 0, 0, 0 };
+    SHIM_CALL(map, answer = blink_stat(seat, false, &stats))
     return answer == BLINK_OK ? (int64_t)stats.free_pages : -1;
 }

@@ -46,28 +46,18 @@ pub struct blink_part {
 pub struct blink_stats {
     /// How many pages the map has.
     pub pages: u64,
-    /// How many of them are free, about.
+    /// How many of them are free.
     pub free_pages: u64,
-    /// How many pieces of upkeep of the seat wait.
-    pub waiting: u64,
-    /// How many were dropped.
-    pub dropped: u64,
-}
-
-/// How many pages and frames a map has, and how many of them are in use and free.
-#[repr(C)]
-#[derive(Clone, Copy, Debug, Default)]
-pub struct blink_room {
-    /// How many pages the map has.
-    pub pages: u64,
     /// How many of them are in use.
     pub used_pages: u64,
-    /// How many are free.
-    pub free_pages: u64,
     /// How many frames the map has.
     pub frames: u64,
     /// How many of them are free.
     pub free_frames: u64,
+    /// How many pieces of upkeep of the seat wait.
+    pub waiting: u64,
+    /// How many were dropped.
+    pub dropped: u64,
 }
 
 /// Done.
@@ -78,7 +68,7 @@ pub const BLINK_ABSENT: i32 = 1;
 pub const BLINK_PRESENT: i32 = 2;
 /// No free page or frame; nothing has changed.
 pub const BLINK_NO_ROOM: i32 = 3;
-/// No answer yet: let another thread run and call again.
+/// Not done: let another thread run and call again.
 pub const BLINK_AGAIN: i32 = 4;
 /// The number of pages is not 4 to 2^28.
 pub const BLINK_BAD_PAGES: i32 = 5;
@@ -248,12 +238,9 @@ extern "C" {
     pub fn blink_count(seat: *mut blink_seat, from: u64, last: u64, count: *mut u64) -> i32;
     pub fn blink_upkeep(seat: *mut blink_seat, most: u32) -> i32;
     pub fn blink_upkeep_all(seat: *mut blink_seat) -> i32;
-    pub fn blink_waiting(seat: *mut blink_seat) -> u32;
-    pub fn blink_dropped(seat: *mut blink_seat) -> u64;
-    pub fn blink_stat(seat: *mut blink_seat, stats: *mut blink_stats) -> i32;
-    pub fn blink_room_of(seat: *mut blink_seat, room: *mut blink_room) -> i32;
+    pub fn blink_stat(seat: *mut blink_seat, look: bool, stats: *mut blink_stats) -> i32;
     pub fn blink_meet(one: *mut blink_seat, two: *mut blink_seat) -> i32;
-    pub fn blink_map(seat: *mut blink_seat, place: *mut *const u32) -> i32;
+    pub fn blink_same_map(one: *mut blink_seat, two: *mut blink_seat) -> i32;
     pub fn blink_text(code: i32) -> *const c_char;
     pub fn blink_version() -> *const c_char;
     pub fn blink_try_close(seat: *mut blink_seat) -> i32;
@@ -285,8 +272,9 @@ extern "C" {
         room: usize,
         count: *mut u64,
     ) -> i32;
-    pub fn blink_tend(seat: *mut blink_seat, most: u32) -> i32;
+    pub fn blink_try_upkeep(seat: *mut blink_seat, most: u32) -> i32;
     pub fn blink_try_meet(one: *mut blink_seat, two: *mut blink_seat) -> i32;
+    pub fn blink_place(seat: *mut blink_seat, place: *mut *const u32) -> i32;
     pub fn blink_try_close_image(
         seats: *mut blink_seat,
         count: usize,

@@ -30,7 +30,7 @@ mod files;
 mod range;
 mod update;
 
-pub use blink_sys::blink_room as Room;
+pub use blink_sys::blink_stats as Stats;
 pub use error::{CloseError, ExchangeError, NoRoom, NoRoomAfter, OpenError, ResizeError, SnapshotError};
 pub use range::Range;
 
@@ -103,7 +103,7 @@ fn opened(code: i32, mut seats: Vec<blink_seat>) -> Result<Map, OpenError> {
     }
     let (handles, mut stats) = (seats.len(), blink_stats::default());
     // SAFETY: the pointers are of an open seat and of a local variable.
-    unsafe { blink_stat(&mut seats[0], &mut stats) };
+    unsafe { blink_stat(&mut seats[0], false, &mut stats) };
     let pages = stats.pages as u32;
     let free = Mutex::new(seats.into_iter().rev().map(Seat).collect());
     Ok(Map { shared: Arc::new(Shared { free, pages: AtomicU32::new(pages), handles }) })
@@ -530,11 +530,12 @@ impl Handle {
         unsafe { blink_upkeep(self.at(), most) == BLINK_OK }
     }
 
-    /// How many pages and frames the map has, in use and free, by a look at each: exact where no other handle is in a call.
-    pub fn room(&self) -> Room {
-        let mut room = Room::default();
-        match unsafe { blink_room_of(self.at(), &mut room) } {
-            BLINK_OK => room,
+    /// How many pages and frames the map has, in use and free, by a look at each, and what upkeep this handle has left to do: exact
+    /// where no other handle is in a call.
+    pub fn stats(&self) -> Stats {
+        let mut stats = Stats::default();
+        match unsafe { blink_stat(self.at(), true, &mut stats) } {
+            BLINK_OK => stats,
             code => error::unexpected(code),
         }
     }

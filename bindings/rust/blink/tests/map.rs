@@ -121,8 +121,9 @@ fn edges() {
     assert_eq!((handle.add(5, 5), handle.add(5, u64::MAX), handle.remove(5)), (Ok(5), Ok(4), Ok(Some(4))));
     assert!(handle.upkeep(10));
     // The anchor and one leaf; two frames for each page, and eight for each handle.
-    let room = handle.room();
-    assert_eq!((room.pages, room.used_pages, room.free_pages, room.frames), (16, 2, 14, 48));
+    let stats = handle.stats();
+    assert_eq!((stats.pages, stats.used_pages, stats.free_pages, stats.frames), (16, 2, 14, 48));
+    assert_eq!((stats.waiting, stats.dropped), (0, 0));
     let refused = map.close_image().unwrap_err();
     assert_eq!(refused.to_string(), "some handles of the map are out, or it is closed");
     drop(handle);

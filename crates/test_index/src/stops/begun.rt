@@ -1,13 +1,10 @@
-//! An index of two leaves, its three passes, and their hands.
+//! An index of two leaves, and its three passes.
 
 ghost use Rattle.std.specs.Prelude.{IfSome};
 ghost use Rattle.bl_index.specs.Calls.{IsPassOf};
-ghost use Rattle.bl_index_resume.specs.Running.{IsAtRest};
 
 use bl_index::{Config, Index, KeyReply, Pass};
-use bl_index_rule::PassState;
 use bl_proc::Posted;
-use bl_store::Hand;
 use std::alloc::Global;
 use std::sync::Wait;
 
@@ -46,13 +43,4 @@ pub(crate) fn fill<R: Wait>(rt: &R, index: &Index, pass: &mut Pass) -> bool
         }
         _ => false,
     }
-}
-
-/// The hand of a pass: it rests.
-pub(crate) fn hand_of(index: &Index, pass: Pass) -> Hand<PassState>
-    requires { IsPassOf index.now pass }
-    ensures { IsAtRest index.now result }
-{
-    let _ = index;
-    pass.into_hand()
 }

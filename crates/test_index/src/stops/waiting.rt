@@ -1,15 +1,12 @@
 //! A deletion stands still while it holds its leaf, and another waits for that leaf. Meanwhile each kind of write that programs call is
 //! answered in another leaf: an insertion that posts by itself and one that does not, a change and a deletion, by a pass, by a handle
-//! of the map, and in turns, as a seat of C writes.
+//! of the map, and by calls that may not wait, as a seat of C writes.
 
-ghost use Rattle.std.specs.Prelude.{IfSome};
 ghost use Rattle.bl_index.specs.Calls.{IsPassOf};
-ghost use Rattle.bl_index_resume.specs.Running.{IsAtRest};
 ghost use Rattle.test_index.specs.Stopped.{IsHeld};
 
-use crate::stops::begun::{fill, hand_of, opened};
+use crate::stops::begun::{fill, opened};
 use bl_index::{Index, KeyReply, Pass};
-use bl_index_resume::{Running, start_write};
 use bl_index_rule::PassState;
 use bl_index_write::{begin_write, end_write};
 use bl_map::Handle;
@@ -126,31 +123,16 @@ fn writes_by_handle<R: Wait>(rt: &R, index: &Index, pass: Pass) -> (bool, Pass)
     (are_right, handle.into_seat())
 }
 
-/// A write of key 19 in turns, as a seat of C makes it, which may not wait: its reply, where it has ended within so many.
-fn write_in_turns(index: &Index, hand: &mut Hand<PassState>, write: KeyWrite) -> Option<KeyReply>
-    requires { IsAtRest index.now hand.old }
-    ensures { IfSome result (λ reply. IsAtRest index.now hand.new) }
+/// The same writes of key 19 by calls that may not wait, as a seat of C makes them.
+fn writes_at_once(index: &Index, pass: &mut Pass) -> bool
+    requires { IsPassOf index.now pass.old }
 {
-    let mut running = Running::Rests;
-    let (reply, _hint) = start_write(index.tree(), hand, &mut running, 19, write, 256)?;
-    Some(reply)
-}
-
-/// The same writes in turns.
-fn writes_in_turns(index: &Index, pass: Pass) -> bool
-    requires { IsPassOf index.now pass }
-{
-    let mut hand = hand_of(index, pass);
-    let Some(inserted) = write_in_turns(index, &mut hand, KeyWrite::Insert(190)) else {
-        return false;
-    };
-    let Some(changed) = write_in_turns(index, &mut hand, KeyWrite::Change(190, 191)) else {
-        return false;
-    };
-    let deleted = write_in_turns(index, &mut hand, KeyWrite::Delete);
-    inserted == KeyReply::Inserted
-        && changed == KeyReply::Changed
-        && deleted == Some(KeyReply::Deleted(191))
+    let inserted = index.try_write(pass, 19, KeyWrite::Insert(190), 8);
+    let changed = index.try_write(pass, 19, KeyWrite::Change(190, 191), 8);
+    let deleted = index.try_write(pass, 19, KeyWrite::Delete, 8);
+    inserted == Some((KeyReply::Inserted, None))
+        && changed == Some((KeyReply::Changed, None))
+        && deleted == Some((KeyReply::Deleted(191), None))
 }
 
 /// All of them, once they may.
@@ -161,10 +143,10 @@ fn write_elsewhere<R: Wait>(rt: &R, index: &Index, pass: Pass, course: &Course) 
     for _ in rt.forever() {
         if course.goes.load(Ordering::SeqCst) {
             let by_pass = writes_by_pass(rt, index, &mut pass);
-            let (by_handle, pass) = writes_by_handle(rt, index, pass);
-            let in_turns = writes_in_turns(index, pass);
+            let (by_handle, mut pass) = writes_by_handle(rt, index, pass);
+            let at_once = writes_at_once(index, &mut pass);
             course.answered.store(true, Ordering::SeqCst);
-            return by_pass && by_handle && in_turns;
+            return by_pass && by_handle && at_once;
         }
         thread::yield_now();
     }

@@ -1,10 +1,13 @@
-//! A map grows at rest: it goes on with more pages once few are free.
+//! A map grows and shrinks at rest: it goes on with more pages once few are free, and with fewer once most of its rows have gone.
 
-ghost use Rattle.std.specs.Prelude.{IfSome};
+ghost use Rattle.std.specs.Prelude.{IfOk, IfSome};
 ghost use Rattle.bl_map.specs.Maps.{IsSeatOf};
 
 use crate::maps::calls::shared;
-use bl_map::{KeyReply, Map, ResizeFault, Seat, UnresizedMap};
+use bl_load::LoadFault;
+use bl_map::{
+    KeyReply, Map, MapLoadFault, ResizeFault, Seat, UnresizedMap, UnshrunkMap, shrinking_adds_a_life,
+};
 use std::alloc::Global;
 use std::sync::Wait;
 
@@ -96,4 +99,63 @@ fn fault(alloc: Global, pages: u32) -> Option<ResizeFault> {
 fn a_map_is_kept_that_is_not_resized(rt: HostRuntime) {
     assert!(rt; fault(rt.alloc(), 128) == Some(ResizeFault::Pass));
     assert!(rt; fault(rt.alloc(), 63) == Some(ResizeFault::Pages));
+}
+
+/// The map with so many pages, and its seat; or why it is closed.
+fn smaller(alloc: Global, map: Map, seat: Seat, pages: u32) -> Option<Result<(Map, Seat), MapLoadFault>>
+    requires { IsSeatOf map seat }
+    ensures { IfSome result (λ r. IfOk r (λ t. IsSeatOf t.0 t.1)) }
+{
+    let mut seats = Vec::new(alloc);
+    seats.push(seat).ok()?;
+    match map.shrink(alloc, seats, pages) {
+        Ok((map, mut seats)) => {
+            let seat = seats.pop()?;
+            Some(Ok((map, seat)))
+        }
+        Err(UnshrunkMap::Closed(_image, why)) => Some(Err(why)),
+        Err(UnshrunkMap::Kept(_map, _seats, _why)) => None,
+    }
+}
+
+/// Whether a map of 4,096 pages is sparse with 20,000 rows, and with the hundred of them that are left; and what is found of it once it has 64
+/// pages.
+fn shrunk<R: Wait>(rt: &R, alloc: Global) -> Option<[bool; 4]> {
+    let (map, seat) = opened(alloc)?;
+    let (map, seat) = larger(alloc, map, seat)?;
+    let (seat, _end) = fill(rt, &map, seat, 0);
+    let mut handle = map.handle(seat);
+    let before = handle.is_sparse();
+    for key in 100..ROWS {
+        handle.delete(rt, key);
+    }
+    let behind = handle.is_sparse();
+    let seat = handle.into_seat();
+    let (map, seat) = smaller(alloc, map, seat, 64)?.ok()?;
+    // The law by which the history goes on.
+    shrinking_adds_a_life();
+    let mut handle = map.handle(seat);
+    let last = handle.last(rt) == Some((99, 104));
+    Some([before, behind, last && handle.count(rt, 0, None) == 100, handle.insert(rt, 100, 1) == KeyReply::Inserted])
+}
+
+#[test]
+fn a_map_shrinks_once_most_rows_have_gone(rt: HostRuntime) {
+    assert!(rt; shrunk(&rt, rt.alloc()) == Some([false, true, true, true]));
+}
+
+/// Why a map of 100 rows does not go on with 8 pages: nine leaves and the anchor at least.
+fn too_small<R: Wait>(rt: &R, alloc: Global) -> Option<MapLoadFault> {
+    let (map, seat) = opened(alloc)?;
+    let mut handle = map.handle(seat);
+    for key in 0..100 {
+        handle.insert(rt, key, key + 5);
+    }
+    let seat = handle.into_seat();
+    smaller(alloc, map, seat, 8)?.err()
+}
+
+#[test]
+fn a_map_whose_rows_want_more_pages_gives_its_image(rt: HostRuntime) {
+    assert!(rt; too_small(&rt, rt.alloc()) == Some(MapLoadFault::Rows(LoadFault::Room)));
 }

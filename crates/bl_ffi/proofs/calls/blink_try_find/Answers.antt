@@ -8,9 +8,10 @@ pub returns-in-Some-answer : goal.returns-in-Some-answer
 returns-in-Some-answer c =
     let was = c.in-Some.ensures.held ∙ ap (λ (z : Seat). Some z) (sym c.deref_mut.ensures.value) in
     called c.args.seat.now c.put_back.new.place _ _ c.deref_mut.result.now c.find-answer.new.self was c.put_back.ensures c.find-answer.ensures.same
-    (c.find-answer.ensures.upkeep, inr (reply_of c.in-Some-answer.reply, code_kept _ _ _ c.found.ensures, (c.in-Some-answer.ensures.told, c.in-Some-answer.ensures.found)))
+    (c.find-answer.ensures.keeps, inr (reply_of c.in-Some-answer.reply, code_kept _ _ _ c.told.ensures, c.in-Some-answer.ensures.found))
 
 pub returns-in-None : goal.returns-in-None
 returns-in-None c =
     let was = c.in-Some.ensures.held ∙ ap (λ (z : Seat). Some z) (sym c.deref_mut.ensures.value) in
-    called c.args.seat.now c.put_back.new.place _ _ c.deref_mut.result.now c.find-answer.new.self was c.put_back.ensures c.find-answer.ensures.same (c.find-answer.ensures.upkeep, inl (refl, (c.in-None.ensures.told, c.find-answer.ensures.worked, c.in-None.ensures.missed)))
+    called c.args.seat.now c.put_back.new.place _ _ c.deref_mut.result.now c.find-answer.new.self was c.put_back.ensures c.find-answer.ensures.same
+    (c.find-answer.ensures.keeps, inl (refl, c.in-None.ensures.found))

@@ -53,7 +53,6 @@ returns-in-Ok c =
 
 -- the code is the same, as a number of 32 bits
 code_again : (why : CloseFault) (code : ℤ) → IsCodeOfFault why code → IsCodeOfFault why (to_z w32 (of_z w32 code))
-code_again fault.Underway code is = ap (λ (z : ℤ). to_z w32 (of_z w32 z)) is
 code_again fault.Missing code is = ap (λ (z : ℤ). to_z w32 (of_z w32 z)) is
 code_again fault.Shared code is = ap (λ (z : ℤ). to_z w32 (of_z w32 z)) is
 code_again fault.Memory code is = ap (λ (z : ℤ). to_z w32 (of_z w32 z)) is

@@ -1,7 +1,7 @@
 use Rattle.std.proofs.Common.{ℕ, ◌≡◌, ◌≢◌, ◌<◌}
 use mathlib.Core.Option.{some}
 use lib.ListN.{get_elem?}
-use Rattle.bl_ffi_seats.specs.Calls.{seat_number}
+use Rattle.bl_ffi_seats.specs.Seats.{seat_number}
 use Rattle.bl_ffi_seats.proofs.Closings.{Boxed}
 use Rattle.bl_ffi_seats.proofs.closing.has_seat.Given as goal
 

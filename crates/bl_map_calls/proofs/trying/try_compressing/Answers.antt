@@ -14,8 +14,8 @@ returns-then-try_lowering-clause-tries c =
     compression_done _ _ _ _ _ _ _ _ c.in-Some.squeezed c.in-Some.more _ _ _ _ same (c.try_compress.ensures.same.2 ∙ same) c.requires.thin c.may_fall.ensures c.release.ensures.swept c.in_default-squeezed.not-NoRoom c.in-Some.ensures.compresses
     (c.try_lowering.ensures.lowers c.if-try_lowering.true)
 
-pub returns-else-try_lowering-clause-tries : goal.returns-else-try_lowering-clause-tries
-returns-else-try_lowering-clause-tries c =
+pub returns-clause-tries : goal.returns-clause-tries
+returns-clause-tries c =
     let same = c.release.ensures.same.2 in
     not_lowered _ _ _ _ _ _ _ _ c.in-Some.squeezed c.in-Some.more _ _ _ _ same (c.try_compress.ensures.same.2 ∙ same) c.requires.thin c.may_fall.ensures c.release.ensures.swept c.in_default-squeezed.not-NoRoom c.in-Some.ensures.compresses
     _ c.left_behind.ensures (c.try_lowering.ensures.stops c.if-try_lowering.false)

@@ -26,7 +26,9 @@ pub returns-in_default-clause-stops : goal.returns-in_default-clause-stops
 returns-in_default-clause-stops c = λ _.
     let inv = c.loop-level.invariant in
     stops_there (first_of c.args.index.now) (number_of c.args.pass.now) _ _ c.loop-level._level c.args.most (trail c.args.pass.now) (trail c.loop-level.pass) (trail c.release.new.pass) (trail c.try_lower.new.pass)
-    (omega arith) inv.same.2 (c.release.ensures.same.2 ∙ inv.same.2) (inv.on 0 (trail c.loop-level.pass) NoMore) c.release.ensures.swept c.in_default.ensures.undone
+    (omega arith) inv.same.2 (c.release.ensures.same.2 ∙ inv.same.2)
+    (so_many_lowered (first_of c.args.index.now) (number_of c.args.pass.now) (0 + c.loop-level._level) c.loop-level._level (trail c.args.pass.now) (trail c.loop-level.pass) (omega arith) (inv.on 0 (trail c.loop-level.pass) NoMore))
+    c.release.ensures.swept c.in_default.ensures.undone
 
 pub returns-in_default-lowered-clause-lowers : goal.returns-in_default-lowered-clause-lowers
 returns-in_default-lowered-clause-lowers c = λ _.

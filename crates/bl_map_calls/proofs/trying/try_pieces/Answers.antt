@@ -17,7 +17,7 @@ loop-piece-preserved c =
       same = search rules;
       on = λ more after end all t. inv.on (suc more) after end (omega (arith, all))
           (done_one (first_of c.args.index.now) (number_of c.args.pass.now) _ more c.try_follow.result c.loop-piece.waiting c.try_follow.new.waiting after (trail c.loop-piece.pass) (trail c.try_follow.new.pass) end
-          inv.same.2 (sym c.is_done.ensures ∙ c.if-is_done.true) c.try_follow.ensures.tries t);
+          inv.same.2 (sym c.is_done.ensures ∙ c.if-not-is_done.false) c.try_follow.ensures.tries t);
     }
 
 pub returns-then-is_empty-clause-tries : goal.returns-then-is_empty-clause-tries
@@ -30,7 +30,7 @@ returns-then-not-is_done-clause-tries c =
     let inv = c.loop-piece.invariant in
     inv.on (suc (c.args.most - (c.loop-piece._piece + 1))) c.try_follow.new.waiting (trail c.try_follow.new.pass) (omega arith)
     (not_done (first_of c.args.index.now) (number_of c.args.pass.now) _ (c.args.most - (c.loop-piece._piece + 1)) c.try_follow.result c.loop-piece.waiting c.try_follow.new.waiting (trail c.loop-piece.pass) (trail c.try_follow.new.pass)
-    inv.same.2 (sym c.is_done.ensures ∙ c.if-is_done.false) c.try_follow.ensures.tries)
+    inv.same.2 (sym c.is_done.ensures ∙ c.if-not-is_done.true) c.try_follow.ensures.tries)
 
 pub returns-clause-tries : goal.returns-clause-tries
 returns-clause-tries c = c.loop-piece.invariant.on 0 c.loop-piece.waiting (trail c.loop-piece.pass) (omega arith) AsManyDone

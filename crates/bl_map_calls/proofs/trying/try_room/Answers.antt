@@ -26,12 +26,12 @@ returns-then-splits-clause-adds c =
     let same = c.sweep_if_due.ensures.same.2 in let same' = c.try_pieces.ensures.same.2 ∙ same in
     looks_add _ _ _ _ _ _ (looks_for _ _ _ _ _ _ _ _ _ _ _ _ _ same same' (c.release_both.ensures.same.2 ∙ same') c.sweep_if_due.ensures.swept c.try_pieces.ensures.tries c.release_both.ensures.swept c.finds_pages.ensures.mends)
 
-pub returns-else-splits-clause-looks : goal.returns-else-splits-clause-looks
-returns-else-splits-clause-looks c =
+pub returns-clause-looks : goal.returns-clause-looks
+returns-clause-looks c =
     let same = c.sweep_if_due.ensures.same.2 in let same' = c.try_pieces.ensures.same.2 ∙ same in
     looks_for _ _ _ _ _ _ _ _ _ _ _ _ _ same same' (c.release_both.ensures.same.2 ∙ same') c.sweep_if_due.ensures.swept c.try_pieces.ensures.tries c.release_both.ensures.swept NoneFound
 
-pub returns-else-splits-clause-adds : goal.returns-else-splits-clause-adds
-returns-else-splits-clause-adds c =
+pub returns-clause-adds : goal.returns-clause-adds
+returns-clause-adds c =
     let same = c.sweep_if_due.ensures.same.2 in let same' = c.try_pieces.ensures.same.2 ∙ same in
     looks_add _ _ _ _ _ _ (looks_for _ _ _ _ _ _ _ _ _ _ _ _ _ same same' (c.release_both.ensures.same.2 ∙ same') c.sweep_if_due.ensures.swept c.try_pieces.ensures.tries c.release_both.ensures.swept NoneFound)

@@ -7,7 +7,7 @@ use Rattle.bl_map_calls.proofs.trying.try_write.Goals as goal
 -- refused
 
 pub returns-then-not-try_room-clause-none : goal.returns-then-not-try_room-clause-none
-returns-then-not-try_room-clause-none c = record { mid = trail c.try_room.new.pass; looks = c.try_room.ensures.looks; undone = inl (c.try_room.ensures.refused c.if-try_room.false, refl) }
+returns-then-not-try_room-clause-none c = record { mid = trail c.try_room.new.pass; looks = c.try_room.ensures.looks; undone = inl (c.try_room.ensures.refused c.if-not-try_room.true, refl) }
 
 pub returns-then-not-try_room-clause-undone : goal.returns-then-not-try_room-clause-undone
 returns-then-not-try_room-clause-undone c = looks_add _ _ _ _ _ _ c.try_room.ensures.looks

@@ -1,0 +1,93 @@
+/* Each call of a crowd is answered: crowded THREADS KEYS CALLS. So many threads, each with a seat of its own, write so few keys of one map and
+ * look them up, by calls that come back at once. A call that was told BLINK_AGAIN is made again, and has to be answered within a million tries.
+ * It says how many tries and how much time the longest call took: it is the scheduler's, where there are more threads than processors. */
+#include "blink.h"
+
+#include <inttypes.h>
+#include <pthread.h>
+#include <stdio.h>
+#include <stdlib.h>
+#include <time.h>
+
+enum { MOST = 64, PAGES = 64, TRIES = 1000000 };
+
+typedef struct worker {
+    blink_seat *seat;
+    uint64_t drawn, made, again, most_tries, longest;
+} worker;
+
+static blink_seat seats[MOST];
+static worker workers[MOST];
+static uint64_t keys, calls_each;
+
+static uint64_t now(void) {
+    struct timespec time;
+    clock_gettime(CLOCK_MONOTONIC, &time);
+    return (uint64_t)time.tv_sec * 1000000000u + (uint64_t)time.tv_nsec;
+}
+
+static uint64_t draw(worker *me, uint64_t limit) {
+    me->drawn ^= me->drawn << 13;
+    me->drawn ^= me->drawn >> 7;
+    me->drawn ^= me->drawn << 17;
+    return (me->drawn * 0x2545F4914F6CDD1Du >> 33) % limit;
+}
+
+/* One try of the call of a kind. */
+static int32_t try_call(worker *me, uint64_t kind, uint64_t key) {
+    uint64_t value = 0;
+    switch (kind) {
+        case 0: return blink_try_find(me->seat, key, &value);
+        case 1: return blink_try_insert(me->seat, key, me->made, &value);
+        case 2: return blink_try_put(me->seat, key, me->made, &value);
+        default: return blink_try_delete(me->seat, key, &value);
+    }
+}
+
+static void *work(void *place) {
+    worker *me = place;
+    for (me->made = 0; me->made < calls_each; me->made++) {
+        const uint64_t kind = draw(me, 4), key = draw(me, keys), begin = now();
+        uint64_t tries = 1, took;
+        int32_t answer;
+        while ((answer = try_call(me, kind, key)) == BLINK_AGAIN) {
+            if (++tries > TRIES) break;
+            BLINK_YIELD();
+        }
+        took = now() - begin;
+        me->again += tries - 1;
+        if (answer != BLINK_OK && answer != BLINK_ABSENT && answer != BLINK_PRESENT) {
+            fprintf(stderr, "crowded: a call of kind %" PRIu64 " is told %s\n", kind, blink_text(answer));
+            exit(1);
+        }
+        if (tries > me->most_tries) me->most_tries = tries;
+        if (took > me->longest) me->longest = took;
+    }
+    return NULL;
+}
+
+int main(int count, char **words) {
+    pthread_t ids[MOST];
+    worker all = {0};
+    int threads = count > 1 ? atoi(words[1]) : 16, t;
+    keys = count > 2 ? strtoull(words[2], NULL, 10) : 8;
+    calls_each = count > 3 ? strtoull(words[3], NULL, 10) : 100000;
+    if (threads < 1 || threads > MOST || keys < 1) return 2;
+    if (blink_open(PAGES, seats, (size_t)threads) != BLINK_OK) return 2;
+    for (t = 0; t < threads; t++) {
+        workers[t].seat = &seats[t];
+        workers[t].drawn = (uint64_t)(t + 1) * 0x9E3779B97F4A7C15u;
+        if (pthread_create(&ids[t], NULL, work, &workers[t])) return 2;
+    }
+    for (t = 0; t < threads; t++) {
+        pthread_join(ids[t], NULL);
+        all.made += workers[t].made;
+        all.again += workers[t].again;
+        if (workers[t].most_tries > all.most_tries) all.most_tries = workers[t].most_tries;
+        if (workers[t].longest > all.longest) all.longest = workers[t].longest;
+        if (blink_close(&seats[t]) != BLINK_OK) return 1;
+    }
+    printf("%" PRIu64 " calls answered, BLINK_AGAIN %" PRIu64 " times; the longest took %" PRIu64 " tries, %.1f ms\n", all.made, all.again, all.most_tries,
+           (double)all.longest / 1e6);
+    return 0;
+}

@@ -1,3 +1,0 @@
-pub mod Holding
-pub mod Rooms
-pub mod Running

@@ -1,0 +1,5 @@
+use Rattle.bl_map.proofs.Ordered.{keep_order}
+use Rattle.bl_map.proofs.stamping.stamps_keep_order.Goals as goal
+
+pub returns : goal.returns
+returns c = keep_order
