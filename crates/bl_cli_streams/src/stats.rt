@@ -45,17 +45,18 @@ pub fn stats_line(
     Ok(line)
 }
 
-/// The line for requests that found no room, and what helps: of an index that has so many pages, and may grow up to so many.
+/// The line for requests that found no room, and what helps: of an index that began with an image, which has as many pages as
+/// that, and of one with so many pages.
 pub fn noroom_line(
     alloc: Global,
     norooms: u64,
     pages: u32,
-    most: u32,
+    has_image: bool,
 ) -> Result<String, AllocError> {
     let requests = if norooms == 1 { "request" } else { "requests" };
-    if pages < most {
+    if has_image {
         return format!(in alloc;
-            "blink: {norooms} {requests} found no room; the index grows to {most} pages, where memory for them is found"
+            "blink: {norooms} {requests} found no room; an index has as many pages as its image"
         );
     }
     if pages >= MOST_LARGE_PAGES {

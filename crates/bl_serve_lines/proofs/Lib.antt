@@ -4,7 +4,7 @@ pub mod Examples
 pub mod Known
 mod Cuts
 pub mod Sections
-pub mod LineOrder
+mod LineOrder
 pub mod Keys
 pub mod Dealing
 pub mod Listed

@@ -8,41 +8,41 @@ use std::io::Write;
 use std::test::Fail;
 
 /// Whether the lines of a server's end are those.
-fn says(alloc: Global, norooms: u64, pages: u32, most: u32, wanted: &str) -> Result<bool, Fail> {
-    let line = noroom_line(alloc, norooms, pages, most)?;
+fn says(alloc: Global, norooms: u64, pages: u32, image: bool, wanted: &str) -> Result<bool, Fail> {
+    let line = noroom_line(alloc, norooms, pages, image)?;
     Ok(line.as_str() == wanted)
 }
 
 #[test]
 fn lines_on_no_room(rt: HostRuntime) -> Result<(), Fail> {
-    for (norooms, pages, most, wanted) in [
+    for (norooms, pages, image, wanted) in [
         (
             1,
             4,
-            4,
+            false,
             "blink: 1 request found no room; more --pages than 4 may help",
         ),
         (
             22_767,
             1024,
-            1024,
+            false,
             "blink: 22767 requests found no room; more --pages than 1024 may help",
         ),
         (
             2,
             65_536,
-            65_536,
+            false,
             "blink: 2 requests found no room; more pages than 65536 by --large may help",
         ),
         (
             2,
             1024,
-            5000,
-            "blink: 2 requests found no room; the index grows to 5000 pages, where memory for them is found",
+            true,
+            "blink: 2 requests found no room; an index has as many pages as its image",
         ),
     ] {
         assert!(rt;
-            says(rt.alloc(), norooms, pages, most, wanted)?,
+            says(rt.alloc(), norooms, pages, image, wanted)?,
             "{wanted}"
         );
     }

@@ -10,8 +10,6 @@ mod dumps;
 #[cfg(test)]
 mod gates;
 #[cfg(test)]
-mod growing;
-#[cfg(test)]
 mod lines;
 #[cfg(test)]
 mod logs;

@@ -1,2 +1,0 @@
-pub mod Syncs
-pub mod Reading
