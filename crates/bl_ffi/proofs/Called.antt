@@ -1,5 +1,5 @@
 -- What a call of a seat tells C.
-use Rattle.std.proofs.Common.{◌≡◌, ℕ, Option, Some, None, refl, sym, ap, ◌∙◌, subst}
+use Rattle.std.proofs.Common.{◌≡◌, ℕ, Bool, true, false, Option, Some, None, refl, sym, ap, ◌∙◌, subst}
 use Rattle.std.specs.Prelude.{ℤ, pos, MatchOption}
 use mir.Val.{to_z, of_z}
 use mir.Syntax.{w32}
@@ -29,3 +29,6 @@ code_kept Changed code w h = again code (pos 0) h refl
 code_kept (Differs v) code w h = (again code (pos 2) h.0 refl, h.1)
 code_kept (Rows rows next) code w h = absurd h
 code_kept NoRoom code w h = again code (pos 3) h refl
+
+pub not_true : (b : Bool) → b ≡ false → b ≡ true → ⊥
+not_true b isnt is = absurd (let f : false ≡ true = sym isnt ∙ is in cc)

@@ -2,7 +2,7 @@
 
 ghost use Rattle.std.specs.Prelude.{◌≡◌, [], ◌∷◌, IfSome};
 ghost use Rattle.bl_ffi_seats.specs.Closed.{values};
-ghost use Rattle.bl_ffi_seats.specs.Meetings.{AreOfOne};
+ghost use Rattle.bl_ffi_seats.specs.Seats.{AreOfOne};
 ghost use Rattle.bl_index_read.specs.LeafRows.{IsBelow};
 
 use bl_ffi_seats::{
