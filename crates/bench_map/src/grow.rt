@@ -70,9 +70,7 @@ impl Load {
 
     // How many rows each thread has.
     fn share(self) -> u64 {
-        self.rows
-            .checked_div(u64::from(self.threads))
-            .unwrap_or(0)
+        self.rows.checked_div(u64::from(self.threads)).unwrap_or(0)
     }
 
     // The key of a thread's row: each takes every so many-th.
@@ -85,7 +83,14 @@ impl Load {
 }
 
 /// Does a part with a row. Says whether it was answered as it should be; a row that stays always is.
-fn treat<R: Wait>(rt: &R, handle: &mut Handle<'_>, load: Load, part: Part, key: u64, turn: u64) -> bool
+fn treat<R: Wait>(
+    rt: &R,
+    handle: &mut Handle<'_>,
+    load: Load,
+    part: Part,
+    key: u64,
+    turn: u64,
+) -> bool
     ensures { handle.new.index ≡ handle.old.index }
 {
     match part {
@@ -103,7 +108,14 @@ fn go_on<R: Wait>(rt: &R, worker: &mut Worker<'_>, place: u64, load: Load, part:
         if load.pages == 0 && part == Part::Rows && worker.handle.is_short() {
             return;
         }
-        if treat(rt, &mut worker.handle, load, part, load.key(turn, place), turn) {
+        if treat(
+            rt,
+            &mut worker.handle,
+            load,
+            part,
+            load.key(turn, place),
+            turn,
+        ) {
             worker.done = worker.done.wrapping_add(1);
         }
         worker.turn = turn.wrapping_add(1);
@@ -111,7 +123,12 @@ fn go_on<R: Wait>(rt: &R, worker: &mut Worker<'_>, place: u64, load: Load, part:
 }
 
 /// A worker for each seat.
-fn workers_of<'a>(alloc: Global, map: &'a Map, seats: Vec<Seat>, turns: &[u64]) -> Option<Vec<Worker<'a>>>
+fn workers_of<'a>(
+    alloc: Global,
+    map: &'a Map,
+    seats: Vec<Seat>,
+    turns: &[u64],
+) -> Option<Vec<Worker<'a>>>
     requires { AreSeatsOf map.now seats.items }
     ensures { IfSome result (λ workers. All (λ w. IsHandleOf map.now w.handle) workers.items) }
 {
@@ -130,7 +147,12 @@ fn workers_of<'a>(alloc: Global, map: &'a Map, seats: Vec<Seat>, turns: &[u64]) 
 }
 
 /// The seats of workers, and how far they have come.
-fn seats_of(alloc: Global, map: &Map, workers: Vec<Worker<'_>>, done: u64) -> Option<(Vec<Seat>, Progress)>
+fn seats_of(
+    alloc: Global,
+    map: &Map,
+    workers: Vec<Worker<'_>>,
+    done: u64,
+) -> Option<(Vec<Seat>, Progress)>
     requires { All (λ w. IsHandleOf map.now w.handle) workers.items }
     ensures { IfSome result (λ t. AreSeatsOf map.now t.0.items) }
 {
@@ -297,13 +319,23 @@ fn run<R: Print + Threads + Wait + Clock + Sync>(
     let Some((map, seats)) = opened(alloc, load) else {
         return Ok(false);
     };
-    let Some((map, seats, done, pages, pause)) =
-        work(rt, alloc, map, seats, load, Part::Rows, first)
-    else {
+    let Some((map, seats, done, pages, pause)) = work(
+        rt,
+        alloc,
+        map,
+        seats,
+        load,
+        Part::Rows,
+        first,
+    ) else {
         return Ok(false);
     };
     let taken = micros(start.elapsed(rt)?);
-    tell(rt, "rows", [calls, done, taken, micros(pause), u64::from(pages)])?;
+    tell(
+        rt,
+        "rows",
+        [calls, done, taken, micros(pause), u64::from(pages)],
+    )?;
     let start = Instant::now(rt)?;
     let Some((map, seats, done, pages, _)) = work(rt, alloc, map, seats, load, Part::Gone, pages)
     else {
@@ -317,7 +349,11 @@ fn run<R: Print + Threads + Wait + Clock + Sync>(
         return Ok(false);
     };
     let taken = micros(start.elapsed(rt)?);
-    tell(rt, "gone", [calls, done, taken, micros(pause), u64::from(pages)])?;
+    tell(
+        rt,
+        "gone",
+        [calls, done, taken, micros(pause), u64::from(pages)],
+    )?;
     let start = Instant::now(rt)?;
     let left = count_left(rt, &map, seats);
     let taken = micros(start.elapsed(rt)?);
@@ -332,7 +368,9 @@ pub fn run_load<R: Print + Eprint + Threads + Wait + Clock + Sync>(
     words: &[String],
 ) -> anyhow::Result<()> {
     let Some(load) = Load::read(words) else {
-        eprintln!(rt; "usage: bench_map grow PAGES ROWS THREADS rising|random, with no PAGES for a map that grows")?;
+        eprintln!(rt;
+            "usage: bench_map grow PAGES ROWS THREADS rising|random, with no PAGES for a map that grows"
+        )?;
         return Ok(());
     };
     if !run(rt, alloc, load)? {

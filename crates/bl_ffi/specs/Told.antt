@@ -1,12 +1,14 @@
 -- What a call tells C.
 use Rattle.std.specs.Prelude.{◌≡◌, ◌⊎◌, ◌+◌, ◌≤◌, ℕ, ℤ, pos, min, Bool, true, false, Some, None, List, [], ◌∷◌, ◌++◌, map, take, drop, length, MatchOption, MatchBool}
 use Rattle.std.specs.Arc.{arc_value}
+use Rattle.bl_model.specs.declared.operation.KeyReply.{KeyReply}
 use Rattle.bl_model.specs.declared.operation.Next.{Next}
 use Rattle.bl_model.specs.declared.operation.Next.TheVariants.{More, End}
 use Rattle.bl_model.specs.declared.operation.Op.{Op}
 use Rattle.bl_model.specs.declared.operation.Reply.{Reply}
 use Rattle.bl_model.specs.declared.operation.Reply.TheVariants.{Found, Absent, Inserted, Present, Replaced, Deleted, Changed, Differs, Rows, NoRoom}
 use Rattle.bl_model.specs.declared.deciding.KeyWrite.{KeyWrite}
+use Rattle.bl_model.specs.Replies.{reply_of}
 use Rattle.bl_waiting.specs.Queue.{hints_of}
 use Rattle.bl_index.specs.Calls.{pages_of, frames_of}
 use Rattle.bl_ffi_seats.specs.declared.seat.Seat.{Seat}
@@ -42,7 +44,7 @@ TellsFound op old new code written = Calls old new code (λ s t. KeepsUpkeep s t
 -- A write. It was answered so; or it has not been done, and nothing of it is left.
 abbrev pub TellsWritten : ℕ → KeyWrite → SeatOfC → SeatOfC → ℤ → ℕ → Type 0
 TellsWritten key write old new code written = Calls old new code (λ s t.
-    ((code ≡ pos 4) × HasNotWritten s t) ⊎ ((reply : Reply) × IsCodeOf reply code written × HasWritten key write reply s t))
+    ((code ≡ pos 4) × HasNotWritten s t) ⊎ ((reply : KeyReply) × IsCodeOf (reply_of reply) code written × HasWritten key write reply s t))
 
 -- a key and its value, as C has them
 abbrev pub row_of : ℕ × ℕ → Row

@@ -2,3 +2,4 @@ pub mod Begun
 pub mod Made
 pub mod Closings
 pub mod PartReplies
+mod Written

@@ -52,18 +52,16 @@ impl Seat {
 
     /// The rows of one leaf from a key on, and where the next part begins, upwards or downwards. With a page in mind it looks at that one
     /// first, and leaves there the one from which the way to the next part is short, if there is one. None: as for a search.
-    pub fn part(
-        &mut self,
-        direction: Direction,
-        from: u64,
-        near: &mut Option<u32>,
-    ) -> Option<Reply>
+    pub fn part(&mut self, direction: Direction, from: u64, near: &mut Option<u32>) -> Option<Reply>
         ensures same { IsSameSeat self.old self.new }
         ensures keeps { KeepsUpkeep self.old self.new }
         ensures found { MatchOption result (HasRunOut self.old self.new) (λ reply. HasFound (op_toward direction from) reply self.old self.new) }
     {
         let turns = self.index.patience();
-        match self.index.part_toward(&mut self.pass, direction, from, near, turns) {
+        match self
+            .index
+            .part_toward(&mut self.pass, direction, from, near, turns)
+        {
             Ok(reply) => Some(reply),
             Err(_) => None,
         }
@@ -73,7 +71,7 @@ impl Seat {
     /// yet, or a page was another thread's. It has not been done, and nothing of it is left: it is to be made again, or not.
     pub fn write(&mut self, key: u64, write: KeyWrite) -> Option<KeyReply>
         ensures same { IsSameSeat self.old self.new }
-        ensures written { MatchOption result (HasNotWritten self.old self.new) (λ reply. HasWritten key write (reply_of reply) self.old self.new) }
+        ensures written { MatchOption result (HasNotWritten self.old self.new) (λ reply. HasWritten key write reply self.old self.new) }
     {
         trying::try_write(
             &self.index,

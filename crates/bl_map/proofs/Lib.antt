@@ -3,4 +3,4 @@ pub mod AllMet
 pub mod Same
 pub mod Handed
 pub mod Ordered
-pub mod Shrinking
+pub mod LaidAnew

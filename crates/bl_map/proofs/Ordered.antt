@@ -54,7 +54,7 @@ entered first pass op reply old new w =
     let e : Entry = record { pass = pass; op = op; reply = reply } in
     let grows : history_of new ≡ history_of old ++ history_of more = ap history_of w.begins.1 ∙ history_append old more in
     let alone : filter test (history_of more) ≡ e ∷ [] = append_cancel_left (own pass old) (filter test (history_of more)) (e ∷ [])
-        (sym (filter-append test (history_of old) (history_of more)) ∙ (sym (ap (filter test) grows) ∙ w.once)) in
+    (sym (filter-append test (history_of old) (history_of more)) ∙ (sym (ap (filter test) grows) ∙ w.once)) in
     record { more = history_of more; grows = grows; there = placed test (history_of more) e alone }
 
 goes_on : (old new : Trail) → GoesOnFrom old new → (more : List Entry) × (history_of new ≡ history_of old ++ more)
@@ -90,6 +90,6 @@ keep_order first one two op op' reply reply' old new told heeded last w tells he
     let c = goes_on told heeded heeds in
     let d = entered first two op' reply' heeded last v in
     let is : history_of last ≡ ((history_of old ++ a.more) ++ (b.0 ++ c.0)) ++ d.more =
-        d.grows ∙ ap (λ (z : List Entry). z ++ d.more) (c.1 ∙ (ap (λ (z : List Entry). z ++ c.0) (b.1 ∙ ap (λ (z : List Entry). z ++ b.0) a.grows)
-            ∙ append_assoc (history_of old ++ a.more) b.0 c.0)) in
+    d.grows ∙ ap (λ (z : List Entry). z ++ d.more) (c.1 ∙ (ap (λ (z : List Entry). z ++ c.0) (b.1 ∙ ap (λ (z : List Entry). z ++ b.0) a.grows)
+    ∙ append_assoc (history_of old ++ a.more) b.0 c.0)) in
     subst (StandInOrder x y) (sym is) (in_order x y (history_of old) a.more d.more a.there d.there (b.0 ++ c.0))

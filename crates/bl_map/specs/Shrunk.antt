@@ -11,7 +11,6 @@ use Rattle.bl_index.specs.declared.index.Pass.{Pass}
 use Rattle.bl_load.specs.declared.fault.LoadFault.TheVariants as rows
 use Rattle.bl_map.specs.Maps.{IsBack, IsLoaded, IsLoadFault}
 use Rattle.bl_map.specs.declared.map.Map.{Map}
-use Rattle.bl_map.specs.declared.map.MapLoadFault.{MapLoadFault}
 use Rattle.bl_map.specs.declared.map.MapLoadFault.TheVariants as loading
 use Rattle.bl_map.specs.declared.shrinking.UnshrunkMap.{UnshrunkMap}
 use Rattle.bl_map.specs.declared.shrinking.UnshrunkMap.TheVariants.{Kept, Closed}

@@ -22,6 +22,7 @@
 mod handle;
 mod map;
 mod meeting;
+mod ordering;
 mod seating;
 mod shrinking;
 mod stamping;
@@ -37,6 +38,7 @@ pub use bl_map_calls::upkeep::Followed;
 pub use handle::{Backlog, Handle};
 pub use map::{Map, MapLoadFault, UnresizedMap};
 pub use meeting::meet_all;
+pub use ordering::stamps_keep_order;
 pub use seating::{give_seats, handles_over};
 pub use shrinking::{UnshrunkMap, shrinking_adds_a_life};
-pub use stamping::{Stamp, stamps_keep_order};
+pub use stamping::Stamp;

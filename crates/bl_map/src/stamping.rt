@@ -3,9 +3,6 @@
 ghost use Rattle.std.specs.Prelude.{◌≡◌};
 ghost use Rattle.bl_index.specs.Calls.{IsPassOf};
 ghost use Rattle.bl_map_calls.specs.Seats.{IsPassOf-prop};
-ghost use Rattle.bl_map.specs.Handles.{IsSameHandle, HasKeptUp, KeepsHints};
-ghost use Rattle.bl_map.specs.Meetings.{KeepsHandle};
-ghost use Rattle.bl_map.specs.Stamps.{IsStampOver, IsOfOneMap, KeepsStamp, HasStamped, HasHeeded, StampsKeepOrder, stamped_seat};
 
 use crate::handle::Handle;
 use bl_index::{Index, Pass};
@@ -20,6 +17,8 @@ pub struct Stamp<'a> {
 }
 
 impl<'a> Stamp<'a> {
+    ghost use Rattle.bl_map.specs.Stamps.{IsStampOver, stamped_seat};
+
     /// A stamp of an index, from a seat of it. For a map see [`crate::Map::stamp`].
     pub fn over(index: &'a Index, seat: Pass) -> Stamp<'a>
         requires { IsPassOf index.now seat }
@@ -38,6 +37,10 @@ impl<'a> Stamp<'a> {
 }
 
 impl<'a> Handle<'a> {
+    ghost use Rattle.bl_map.specs.Handles.{IsSameHandle, HasKeptUp, KeepsHints};
+    ghost use Rattle.bl_map.specs.Meetings.{KeepsHandle};
+    ghost use Rattle.bl_map.specs.Stamps.{IsOfOneMap, KeepsStamp, HasStamped, HasHeeded};
+
     /// Stamps: the stamp then tells all that this handle has seen, and all that it told before. Whoever heeds it makes calls that stand
     /// behind those of this handle so far.
     pub fn stamp(&mut self, stamp: &mut Stamp<'a>)
@@ -61,9 +64,3 @@ impl<'a> Handle<'a> {
         self.index.learn(&mut self.pass, &mut stamp.pass);
     }
 }
-
-/// Says that a call which ended before its handle stamped, and a call which began after another handle had heeded that stamp, stand in the
-/// one history in this order, however many others lie between. It does nothing when it runs.
-pub fn stamps_keep_order()
-    ensures { StampsKeepOrder }
-{}

@@ -1,5 +1,5 @@
 -- What is served on an index that was lent.
-use Rattle.std.proofs.Common.{◌≡◌, List, ℕ, refl, subst}
+use Rattle.std.proofs.Common.{◌≡◌, List, ℕ, refl, sym, subst}
 use Rattle.bl_serve_lines.specs.declared.serving.Sectioning.{Sectioning}
 use Rattle.bl_serve_lines.specs.declared.serving.Totals.{Totals}
 use Rattle.bl_claims.specs.Trails.{Trail}
@@ -7,9 +7,10 @@ use Rattle.bl_index.specs.declared.index.Index.{Index}
 use Rattle.bl_index.specs.declared.index.Pass.{Pass}
 use Rattle.bl_serve.specs.declared.ground.Ground.{Ground}
 use Rattle.bl_serve.specs.declared.ground.Ground.TheVariants.{Lent, Own}
+use Rattle.bl_serve.specs.Begun.{IsOwn}
 use Rattle.bl_serve.specs.Holding.{ServesOn}
 use Rattle.bl_serve.specs.Serving.{AreTogether, Serves}
-use Rattle.bl_serve.specs.Standing.{index_in}
+use Rattle.bl_serve.specs.Standing.{IsOwned, index_in}
 
 abbrev pub IsLent : Ground → Type 0
 IsLent (Lent index) = Unit {0}
@@ -26,11 +27,10 @@ serves_lent how (Lent index) olds (Own now most) news totals input output lent s
 serves_lent how (Own index most) olds new news totals input output lent s = absurd lent
 
 -- one of the server's own stays one
-abbrev pub IsOwned : Ground → Type 0
-IsOwned (Lent index) = ⊥
-IsOwned (Own index most) = Unit {0}
-
 pub owned_still : (how : Sectioning) (old : Ground) (olds : List Pass) (new : Ground) (news : List Pass) (totals : Totals) (input output : List ℕ) → IsOwned old → ServesOn how old olds new news totals input output → IsOwned new
 owned_still how (Lent index) olds new news totals input output own s = absurd own
 owned_still how (Own index most) olds (Lent now) news totals input output own s = absurd s.stands.still
 owned_still how (Own index most) olds (Own now its) news totals input output own s = tt
+
+pub owned_first : (index : Index) (most : ℕ) (ground : Ground) → IsOwn index most ground → IsOwned ground
+owned_first index most ground own = subst IsOwned (sym own.own) tt

@@ -22,3 +22,4 @@ pub mod Standing
 pub mod Wider
 pub mod Lent
 pub mod Owned
+pub mod Chunked

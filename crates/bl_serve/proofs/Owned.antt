@@ -60,14 +60,14 @@ module _ (how : Sectioning) (origin : Origin) (most among : ℕ) (index : Index)
   said_of_rows P rows are h = subst (λ (z : (ℕ × ℕ) × Map). P z.0 z.1) (λ i. (own_sizes i, (own_map ∙ ap map_of (same_rows origin b.rows rows b.are_rows are)) i)) h
 
   -- it was closed behind that
-  pub served_image : (new : Index) (bound : ℕ) (news : List Pass) (totals : Totals) (closed : Result Quiet AllocError) (input output : List ℕ)
-      → ServesOn how ground olds (Own new bound) news totals input output → Leaves (first_map (first_of new)) (history_of (seen_by news)) (pages_of new, pages_of new) closed → DumpedFrom how origin most totals closed input output
-  served_image new bound news totals closed input output s left =
+  pub served_image : (new : Ground) (news : List Pass) (totals : Totals) (closed : Result Quiet AllocError) (input output : List ℕ)
+      → ServesOn how ground olds new news totals input output → Leaves (first_map (first_of (index_in new))) (history_of (seen_by news)) (pages_of (index_in new), pages_of (index_in new)) closed → DumpedFrom how origin most totals closed input output
+  served_image new news totals closed input output s left =
       let t = s.served in
       let is = subst (λ (z : (ℕ × ℕ) × Map). (served : Served how z.0 z.1 input output totals) × (history_of t.more ≡ whole_history served)) (λ i. (own_sizes i, own_map i)) (t.served, t.history) in
-      let ends : map_in (Own new bound) news ≡ final_map (map_of b.rows) (whole_history is.0) = s.stands.map
+      let ends : map_in new news ≡ final_map (map_of b.rows) (whole_history is.0) = s.stands.map
       ∙ (ap (map_after (first_of (index_in ground))) t.begins ∙ (map_append (first_of (index_in ground)) (seen_by olds) t.more ∙ (λ i. final_map (own_map i) (is.1 i)))) in
-      let held : (quiet : Quiet) → HoldMapAfter (first_map (first_of new)) (history_of (seen_by news)) (pages_of new, pages_of new) quiet.image.pages.items → HoldMapAfter (map_of b.rows) (whole_history is.0) (sizes_of origin most) quiet.image.pages.items = λ quiet h. record {
+      let held : (quiet : Quiet) → HoldMapAfter (first_map (first_of (index_in new))) (history_of (seen_by news)) (pages_of (index_in new), pages_of (index_in new)) quiet.image.pages.items → HoldMapAfter (map_of b.rows) (whole_history is.0) (sizes_of origin most) quiet.image.pages.items = λ quiet h. record {
         least = (let a = h.least in let d = s.stands.least in let e = ap (λ (z : ℕ × ℕ). z.0) own_sizes in omega (arith, a, d, e));
         most = (let a = h.most in let d = s.stands.rests.within in let f = s.stands.most in let e = ap (λ (z : ℕ × ℕ). z.1) own_sizes in omega (arith, a, d, f, e));
         rows = h.rows;

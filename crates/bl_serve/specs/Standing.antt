@@ -16,6 +16,11 @@ abbrev pub index_in : Ground → Index
 index_in (Lent index) = index.now
 index_in (Own index most) = index
 
+-- it is one of its own
+abbrev pub IsOwned : Ground → Type 0
+IsOwned (Lent index) = ⊥
+IsOwned (Own index most) = Unit {0}
+
 -- up to how many pages it may grow
 abbrev pub most_in : Ground → ℕ
 most_in (Lent index) = pages_of index.now

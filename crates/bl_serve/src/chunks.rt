@@ -330,6 +330,7 @@ fn work_chunk<'a, R: Threads + Wait + Sync, G: Gate + Sync, I: Read>(
     requires met { AreMet index.now session.handles.items }
     requires room { session.totals.requests + length lines.now < 2 ^ 64 }
     ensures totals { IfOk result (λ back. back.totals ≡ session.entry.totals) }
+    ensures paired { IfOk result (λ back. (0 < vec_len back.handles) × (vec_len back.slots ≡ vec_len back.handles)) }
     ensures reads { OnOk result (ReadsOn ahead.old ahead.new (I.remaining reader.old.inner) (I.remaining reader.new.inner) (reader.new.failed ≡ true)) }
     ensures consumes { (more : List ℕ) × Consumes (I.remaining reader.old.inner) (I.remaining reader.new.inner) more }
     ensures held { IfOk result (λ back. (more : List ℕ) × (back.text.items ≡ session.entry.text.items ++ more)
@@ -443,5 +444,6 @@ pub fn run_chunk<'a, R: Threads + Wait + Sync, G: Gate + Sync, I: Read>(
     // The law by which what was noted leads from map to map.
     histories_lead();
     let session = with_room(service.alloc, session, lines)?;
-    answer_at(rt, service, session, lines, reader, ahead)
+    let back = answer_at(rt, service, session, lines, reader, ahead)?;
+    Ok(back)
 }

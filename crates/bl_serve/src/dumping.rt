@@ -6,6 +6,7 @@ ghost use Rattle.bl_claims.specs.Seeing.{first_map};
 ghost use Rattle.bl_index.specs.Calls.{first_of, pages_of};
 ghost use Rattle.bl_serve.specs.Dumps.{DumpedFrom, HoldMapAfter};
 ghost use Rattle.bl_serve.specs.Origins.{HasPages, HasRows, MayServe, StopsFrom, sizes_of};
+ghost use Rattle.bl_serve.specs.Standing.{IsOwned, index_in};
 ghost use Rattle.bl_serve.specs.Surviving.{Survives};
 ghost use Rattle.bl_serve.specs.Serving.{AreTogether, EndsServing, seen_by};
 ghost use Rattle.bl_model.specs.Rows.{map_of};
@@ -28,6 +29,17 @@ use std::alloc::{AllocError, Global};
 use std::io::{Read, Write};
 use std::sync::Wait;
 use std::thread::Threads;
+
+/// The index of a server that has one of its own.
+fn own_index(ground: Ground<'_>) -> Index
+    requires { IsOwned ground }
+    ensures { result ≡ index_in ground.entry }
+{
+    match ground {
+        Ground::Own(index, _) => index,
+        Ground::Lent(_) => unreachable!(),
+    }
+}
 
 /// Closes an index by all its passes, which have met: its image has the rows of the map after what they have seen.
 fn shut(alloc: Global, index: Index, passes: Vec<Pass>) -> Result<Quiet, AllocError>
@@ -100,8 +112,7 @@ pub fn dump_by_plan<T: Threads + Wait + Sync, R: Read, O: Outside>(
     let (index, passes) = open_index(alloc, origin, plan.workers + plan.compressors)?;
     let ground = ground_of(index, plan.most);
     match serve_with(rt, ground, passes, reader, outside, &OpenGate, threads) {
-        Ok((summary, Ground::Own(index, _), passes)) => Ok((summary, shut(alloc, index, passes))),
-        Ok(_) => unreachable!(),
+        Ok((summary, ground, passes)) => Ok((summary, shut(alloc, own_index(ground), passes))),
         Err(fault) => Err(fault),
     }
 }

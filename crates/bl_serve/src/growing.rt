@@ -94,7 +94,7 @@ fn settled<'a>(
     requires some { 0 < vec_len passes }
     requires rests { IsAtRest ground passes.items }
     ensures count { IfOk result (λ t. vec_len t.1 ≡ vec_len passes) }
-    ensures resettles { IfOk result (λ t. Resettles ground passes.items t.0 t.1.items) }
+    ensures resettles { IfOk result (λ t. Resettles ground.entry passes.items t.0 t.1.items) }
 {
     match ground {
         Ground::Lent(index) => Ok((Ground::Lent(index), passes, spare)),

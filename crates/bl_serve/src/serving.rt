@@ -237,7 +237,7 @@ fn begun(
 ) -> Result<Session<'_>, AllocError>
     requires { 0 < vec_len passes }
     ensures ground { IfOk result (λ session. session.ground ≡ ground.entry) }
-    ensures passes { IfOk result (λ session. session.passes.items ≡ passes.entry.items) }
+    ensures passes { IfOk result (λ session. session.passes.items ≡ passes.items) }
     ensures first { IfOk result (λ session. (session.totals.requests ≡ 0) × (session.totals.malformed ≡ 0) × (session.totals.sections ≡ 0)) }
 {
     let slots = new_slots(alloc, passes.len(), plan.workers)?;
@@ -323,15 +323,15 @@ pub fn serve_with<'a, T: Threads + Wait + Sync, R: Read, O: Outside, G: Gate + S
     requires rests { IsAtRest ground passes.items }
     requires some { 0 < vec_len passes }
     requires log { O.is_modelled outside.old → O.holds outside.old (map_in ground passes.items) }
-    ensures serves { EndsServing (λ t. ServesOn plan.sections ground passes.items t.1 t.2.items t.0.totals)
-        (Stops plan.sections (sizes_in ground) (map_in ground passes.items))
+    ensures serves { EndsServing (λ t. ServesOn plan.sections ground.entry passes.items t.1 t.2.items t.0.totals)
+        (Stops plan.sections (sizes_in ground.entry) (map_in ground.entry passes.items))
         (R.remaining reader.old.inner) (R.remaining reader.new.inner) (reader.new.failed ≡ true)
         (O.printed outside.old) (O.printed outside.new) (O.has_failed outside.new) result }
     ensures flushed { OnOk result (O.is_flushed outside.new) }
     // What a crash finds at any moment.
     ensures any_moment { O.is_modelled outside.old → (read : List ℕ) × Consumes (R.remaining reader.old.inner) (R.remaining reader.new.inner) read
         × FindsOnly O.moment O.finds outside.old outside.new
-        (Survives plan.sections (sizes_in ground) (map_in ground passes.items) read (O.printed outside.old)) }
+        (Survives plan.sections (sizes_in ground.entry) (map_in ground.entry passes.items) read (O.printed outside.old)) }
 {
     let alloc = *passes.allocator();
     let hints = Hints::new(alloc)?;

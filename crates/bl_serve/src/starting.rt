@@ -87,8 +87,8 @@ pub fn ground_of<'a>(index: Index, most: u32) -> Ground<'a>
     requires { most ≤ 2 ^ 28 }
     ensures { IsOwn index most result }
 {
-    let most = most.max(index.patience());
-    Ground::Own(index, most)
+    let bound = index.patience().max(most);
+    Ground::Own(index, bound)
 }
 
 /// Serves the request lines of the reader over an index of its own, which begins without rows or with those of a sound image, and keeps its

@@ -352,7 +352,8 @@ fn moved_in_vain(seat: &mut Seat) -> u64 {
         let new = key >= INSERTIONS
             || written(seat, key, KeyWrite::Insert(key)) == Some(KeyReply::Inserted);
         let old = key < LIVING
-            || written(seat, key - LIVING, KeyWrite::Delete) == Some(KeyReply::Deleted(key - LIVING));
+            || written(seat, key - LIVING, KeyWrite::Delete)
+                == Some(KeyReply::Deleted(key - LIVING));
         if !new || !old {
             wrong = wrong.saturating_add(1);
         }

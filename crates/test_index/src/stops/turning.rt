@@ -13,7 +13,11 @@ fn a_write_that_may_not_wait_is_done_or_not(rt: HostRuntime) -> Result<(), Fail>
     let mut one = first.into_hand();
     let insert = KeyWrite::Insert(50);
     let (at, glance) = begin_write(tree, &rt, &mut one, 5, insert);
-    assert!(rt; index.try_write(&mut second, 5, KeyWrite::Delete, 256).is_none());
+    assert!(rt;
+        index
+            .try_write(&mut second, 5, KeyWrite::Delete, 256)
+            .is_none()
+    );
     assert!(rt; index.find(&mut third, 5, 8) == Ok(KeyReply::Absent));
     let inserted = end_write(tree, &mut one, at, 5, insert, glance);
     assert!(rt; inserted == (KeyReply::Inserted, None));

@@ -6,7 +6,8 @@ ghost use Rattle.bl_map.specs.Maps.{IsSeatOf};
 use crate::maps::calls::shared;
 use bl_load::LoadFault;
 use bl_map::{
-    KeyReply, Map, MapLoadFault, ResizeFault, Seat, UnresizedMap, UnshrunkMap, shrinking_adds_a_life,
+    KeyReply, Map, MapLoadFault, ResizeFault, Seat, UnresizedMap, UnshrunkMap,
+    shrinking_adds_a_life,
 };
 use std::alloc::Global;
 use std::sync::Wait;
@@ -102,7 +103,12 @@ fn a_map_is_kept_that_is_not_resized(rt: HostRuntime) {
 }
 
 /// The map with so many pages, and its seat; or why it is closed.
-fn smaller(alloc: Global, map: Map, seat: Seat, pages: u32) -> Option<Result<(Map, Seat), MapLoadFault>>
+fn smaller(
+    alloc: Global,
+    map: Map,
+    seat: Seat,
+    pages: u32,
+) -> Option<Result<(Map, Seat), MapLoadFault>>
     requires { IsSeatOf map seat }
     ensures { IfSome result (λ r. IfOk r (λ t. IsSeatOf t.0 t.1)) }
 {
@@ -136,7 +142,12 @@ fn shrunk<R: Wait>(rt: &R, alloc: Global) -> Option<[bool; 4]> {
     shrinking_adds_a_life();
     let mut handle = map.handle(seat);
     let last = handle.last(rt) == Some((99, 104));
-    Some([before, behind, last && handle.count(rt, 0, None) == 100, handle.insert(rt, 100, 1) == KeyReply::Inserted])
+    Some([
+        before,
+        behind,
+        last && handle.count(rt, 0, None) == 100,
+        handle.insert(rt, 100, 1) == KeyReply::Inserted,
+    ])
 }
 
 #[test]

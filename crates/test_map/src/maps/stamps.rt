@@ -36,7 +36,11 @@ fn hand_over<R: Wait>(rt: &R, alloc: Global) -> Option<[KeyReply; 4]> {
     let mut three = map.handle(stamp.into_seat());
     // The law by which these calls are in order.
     stamps_keep_order();
-    if three.find(rt, 7) == last { Some([inserted, found, replaced, last]) } else { None }
+    if three.find(rt, 7) == last {
+        Some([inserted, found, replaced, last])
+    } else {
+        None
+    }
 }
 
 #[test]

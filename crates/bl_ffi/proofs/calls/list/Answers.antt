@@ -16,7 +16,7 @@ returns-in-Some-answer-clause-told c = λ enough.
     let was = c.in-Some.ensures.held ∙ ap (λ (z : Seat). Some z) (sym c.deref_mut.ensures.value) in
     let e = c.part-answer in
     called c.args.seat.now c.put_back.new.place _ _ c.deref_mut.result.now e.new.self was c.put_back.ensures e.ensures.same
-    (e.ensures.keeps, inr (refl, c.in-Some-answer.reply, c.in-Some-answer.ensures.found, c.listed.ensures))
+    (e.ensures.keeps, inr (refl, (c.in-Some-answer.reply, c.in-Some-answer.ensures.found, c.listed.ensures)))
 
 pub returns-in-None-clause-told : goal.returns-in-None-clause-told
 returns-in-None-clause-told c = λ enough.

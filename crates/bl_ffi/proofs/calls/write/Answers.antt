@@ -8,7 +8,7 @@ pub returns-in-Some-answer : goal.returns-in-Some-answer
 returns-in-Some-answer c =
     let was = c.in-Some.ensures.held ∙ ap (λ (z : Seat). Some z) (sym c.deref_mut.ensures.value) in
     called c.args.seat.now c.put_back.new.place _ _ c.deref_mut.result.now c.write-answer.new.self was c.put_back.ensures c.write-answer.ensures.same
-    (inr (reply_of c.in-Some-answer.reply, code_kept _ _ _ c.told.ensures, c.in-Some-answer.ensures.written))
+    (inr (c.in-Some-answer.reply, code_kept (reply_of c.in-Some-answer.reply) _ _ c.told.ensures, c.in-Some-answer.ensures.written))
 
 pub returns-in-None : goal.returns-in-None
 returns-in-None c =

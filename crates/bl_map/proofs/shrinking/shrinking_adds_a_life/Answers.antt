@@ -1,4 +1,4 @@
-use Rattle.bl_map.proofs.Shrinking.{one_life_more}
+use Rattle.bl_map.proofs.LaidAnew.{one_life_more}
 use Rattle.bl_map.proofs.shrinking.shrinking_adds_a_life.Goals as goal
 
 pub returns : goal.returns

@@ -1,14 +1,20 @@
-use Rattle.std.proofs.Common.{◌≡◌, ℕ, ◌<◌, List, [], ◌++◌, refl, subst, true, arith}
+use Rattle.std.proofs.Common.{◌≡◌, ℕ, ◌<◌, List, [], ◌++◌, length, refl, sym, subst, true, arith}
 use Rattle.std.proofs.lemmas.Result.{err_from_is_err_and}
 use Rattle.bl_serve_lines.proofs.Known.{consumes_start, appends_start}
 use Rattle.bl_model.specs.Rows.{map_of}
 use Rattle.bl_outside.specs.Crashes.{FindsOnly}
 use Rattle.bl_outside.proofs.Finding.{finds_first}
+use Rattle.bl_claims.specs.Trails.{history_of}
+use Rattle.bl_claims.specs.Seeing.{first_map}
+use Rattle.bl_index.specs.declared.index.Index.{Index}
+use Rattle.bl_index.specs.Calls.{first_of, pages_of}
+use Rattle.bl_serve.specs.Serving.{AreTogether, seen_by}
 use Rattle.bl_serve.specs.Origins.{Unopened, sizes_of}
 use Rattle.bl_serve.specs.Surviving.{Survives}
 use Rattle.bl_serve.proofs.Surviving.{survives_nothing}
 use Rattle.bl_serve.proofs.Beginning.{same_rows}
-use Rattle.bl_serve.proofs.Owned.{log_seen, rests_first, said_of_rows, served_from, stops_from}
+use Rattle.bl_serve.proofs.Lent.{owned_first, owned_still}
+use Rattle.bl_serve.proofs.Owned.{Leaves, log_seen, rests_first, said_of_rows, served_image, stops_from}
 use Rattle.bl_serve.proofs.dumping.dump_by_plan.Goals as goal
 
 -- no memory for the index
@@ -19,16 +25,37 @@ returns-in_err-index-clause-serves g c = let p = err_from_is_err_and c.from_resi
 pub serve_with-requires-clause-rests : goal.serve_with-requires-clause-rests
 serve_with-requires-clause-rests g c κs within = rests_first c.args.plan.sections c.args.origin c.args.plan.most _ c.in_ok-index.index c.ground_of-ground.result c.in_ok-index.passes.items c.in_ok-index.ensures c.ground_of-ground.ensures
 
+-- the index that comes back is one of the server's own, with all its passes
+pub own_index-requires : goal.own_index-requires
+own_index-requires g c =
+    let h = rw c.plan_of-threads.ensures at c.serve_with.ensures.serves in
+    let s = rw c.in-Ok.is at h.ok in
+    owned_still c.args.plan.sections c.ground_of-ground.result c.in_ok-index.passes.items c.in-Ok.ground c.in-Ok.passes.items c.in-Ok.summary.totals h.input h.output (owned_first c.in_ok-index.index c.args.plan.most c.ground_of-ground.result c.ground_of-ground.ensures) s.0
+
 pub shut-requires-clause-some : goal.shut-requires-clause-some
 shut-requires-clause-some g c =
     let h = rw c.plan_of-threads.ensures at c.serve_with.ensures.serves in
     let s = rw c.in-Ok.is at h.ok in ?
 
 pub shut-requires-clause-together : goal.shut-requires-clause-together
-shut-requires-clause-together g c = ?
+shut-requires-clause-together g c =
+    let h = rw c.plan_of-threads.ensures at c.serve_with.ensures.serves in
+    let s = rw c.in-Ok.is at h.ok in
+    subst (λ (z : Index). AreTogether z (seen_by c.in-Ok.passes.items) c.in-Ok.passes.items) (sym c.own_index.ensures) s.0.stands.rests.together
 
 pub returns-in-Ok-clause-serves : goal.returns-in-Ok-clause-serves
-returns-in-Ok-clause-serves g c = ?
+returns-in-Ok-clause-serves g c =
+    let h = rw c.plan_of-threads.ensures at c.serve_with.ensures.serves in
+    let s = rw c.in-Ok.is at h.ok in record {
+      input = h.input;
+      ahead = h.ahead;
+      output = h.output;
+      consumed = h.consumed;
+      wrote = h.wrote;
+      ok = (served_image c.args.plan.sections c.args.origin c.args.plan.most _ c.in_ok-index.index c.ground_of-ground.result c.in_ok-index.passes.items c.in_ok-index.ensures c.ground_of-ground.ensures c.in-Ok.ground c.in-Ok.passes.items c.in-Ok.summary.totals c.shut.result h.input h.output s.0
+          (subst (λ (z : Index). Leaves (first_map (first_of z)) (history_of (seen_by c.in-Ok.passes.items)) (pages_of z, pages_of z) c.shut.result) c.own_index.ensures c.shut.ensures), s.1);
+      fault = tt;
+    }
 
 pub returns-clause-serves : goal.returns-clause-serves
 returns-clause-serves g c =

@@ -1,6 +1,6 @@
 -- A map whose rows are laid out anew begins with the map that the old one ended with.
 use Rattle.std.proofs.Common.{◌≡◌, ◌∙◌, ◌++◌, ℕ, List, [], ◌∷◌, Option, refl, sym, ap, subst}
-use Rattle.bl_model.specs.Map.{Map as PlainMap, SameMap}
+use Rattle.bl_model.specs.Map.{Map as PlainMap}
 use Rattle.bl_model.specs.Rows.{map_of}
 use Rattle.bl_page.specs.declared.page.Page.{Page}
 use Rattle.bl_check.specs.Rows.{AreRowsOf}

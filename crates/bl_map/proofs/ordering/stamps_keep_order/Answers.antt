@@ -1,5 +1,5 @@
 use Rattle.bl_map.proofs.Ordered.{keep_order}
-use Rattle.bl_map.proofs.stamping.stamps_keep_order.Goals as goal
+use Rattle.bl_map.proofs.ordering.stamps_keep_order.Goals as goal
 
 pub returns : goal.returns
 returns c = keep_order
