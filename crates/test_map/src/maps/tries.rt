@@ -1,6 +1,6 @@
 //! Calls that wait for nothing, by two seats of one thread: each is answered soon, and what is not done is not in the map.
 
-ghost use Rattle.std.specs.Prelude.{◌×◌, IfSome};
+ghost use Rattle.std.specs.Prelude.{IfSome};
 ghost use Rattle.bl_index.specs.Calls.{IsPassOf};
 
 use bl_index::{Config, Index, KeyReply, KeyWrite, Pass};
