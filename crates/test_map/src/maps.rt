@@ -14,5 +14,4 @@ mod seats;
 mod stamps;
 mod tables;
 mod trials;
-mod tries;
 mod updates;
