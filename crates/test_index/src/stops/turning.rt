@@ -65,10 +65,11 @@ fn a_compression_gives_up_where_a_leaf_is_held(rt: HostRuntime) -> Result<(), Fa
     let mut one = third.into_hand();
     let change = KeyWrite::Change(20, 21);
     let (at, glance) = begin_write(tree, &rt, &mut one, 2, change);
+    let again = thin;
     assert!(rt; index.try_compress(&mut second, thin, 256).is_none());
     let changed = end_write(tree, &mut one, at, 2, change, glance);
     assert!(rt; changed == (KeyReply::Changed, None));
-    assert!(rt; index.try_compress(&mut second, thin, 256) == Some((Squeezed::Merged, None)));
+    assert!(rt; index.try_compress(&mut second, again, 256) == Some((Squeezed::Merged, None)));
     assert!(rt; index.try_lower(&mut second) == Some(Lowered::Lowered));
     Ok(())
 }
@@ -82,7 +83,8 @@ fn a_post_that_may_not_wait_begins_anew_behind_a_new_level(rt: HostRuntime) -> R
         level: Level::new(1),
         key: 5,
     };
+    let again = post;
     assert!(rt; index.try_post(&mut first, post, 256).is_none());
-    assert!(rt; index.try_post(&mut first, post, 256) == Some((Posted::Stale, None)));
+    assert!(rt; index.try_post(&mut first, again, 256) == Some((Posted::Stale, None)));
     Ok(())
 }
