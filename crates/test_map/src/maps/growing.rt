@@ -124,45 +124,36 @@ fn smaller(
     }
 }
 
-/// Whether a map of 4,096 pages is sparse with 20,000 rows, and with the hundred of them that are left; and what is found of it once it has 64
-/// pages.
-fn shrunk<R: Wait>(rt: &R, alloc: Global) -> Option<[bool; 4]> {
+/// Whether a map of 1,024 pages is sparse with a hundred rows; whether these are all that is found of it once it has 64 pages, and whether it has
+/// room for one more.
+fn shrunk<R: Wait>(rt: &R, alloc: Global) -> Option<[bool; 3]> {
     let (map, seat) = opened(alloc)?;
-    let (map, seat) = larger(alloc, map, seat)?;
-    let (seat, _end) = fill(rt, &map, seat, 0);
-    let mut handle = map.handle(seat);
-    let before = handle.is_sparse();
-    for key in 100..ROWS {
-        handle.delete(rt, key);
-    }
-    let behind = handle.is_sparse();
+    let (seat, _end) = fill(rt, &map, seat, ROWS - 100);
+    let handle = map.handle(seat);
+    let sparse = handle.is_sparse();
     let seat = handle.into_seat();
     let (map, seat) = smaller(alloc, map, seat, 64)?.ok()?;
     // The law by which the history goes on.
     shrinking_adds_a_life();
     let mut handle = map.handle(seat);
-    let last = handle.last(rt) == Some((99, 104));
+    let last = handle.last(rt) == Some((19_999, 20_004));
+    let all = handle.count(rt, 0, None) == 100;
     Some([
-        before,
-        behind,
-        last && handle.count(rt, 0, None) == 100,
-        handle.insert(rt, 100, 1) == KeyReply::Inserted,
+        sparse,
+        last && all,
+        handle.insert(rt, 7, 1) == KeyReply::Inserted,
     ])
 }
 
 #[test]
-fn a_map_shrinks_once_most_rows_have_gone(rt: HostRuntime) {
-    assert!(rt; shrunk(&rt, rt.alloc()) == Some([false, true, true, true]));
+fn a_map_of_few_rows_shrinks(rt: HostRuntime) {
+    assert!(rt; shrunk(&rt, rt.alloc()) == Some([true, true, true]));
 }
 
 /// Why a map of 100 rows does not go on with 8 pages: nine leaves and the anchor at least.
 fn too_small<R: Wait>(rt: &R, alloc: Global) -> Option<MapLoadFault> {
     let (map, seat) = opened(alloc)?;
-    let mut handle = map.handle(seat);
-    for key in 0..100 {
-        handle.insert(rt, key, key + 5);
-    }
-    let seat = handle.into_seat();
+    let (seat, _end) = fill(rt, &map, seat, ROWS - 100);
     smaller(alloc, map, seat, 8)?.err()
 }
 
