@@ -10,8 +10,9 @@
 // has changed. With std::nothrow as its last argument it throws nothing, and answers a
 // blink::Result, which has the value or the code.
 //
-// A map grows by two as rows come, while the calls of other handles wait: a call takes
-// long then, once for each doubling. One that is made with a number of pages keeps it.
+// A map grows by two as rows come, and shrinks by two where less than an eighth of its
+// pages is used, while the calls of other handles wait: a call takes long then, once for
+// each doubling. One that is made with a number of pages keeps it.
 //
 // What blink.h asks of a caller is kept by types: a Handle owns its place, is moved, not
 // copied, and is used by one thread at a time. Maps are copied and shared; handles may
@@ -78,12 +79,14 @@ namespace detail {
 #endif
 }
 
+constexpr uint32_t FIRST_PAGES = 1024, MOST_PAGES = uint32_t(1) << 28;
+
 // A handle's place at a map: its seat, whether it is in a call, and how many rows it has
-// entered. Each call writes it, so it has a line of memory of its own.
+// entered and taken away. Each call writes it, so it has a line of memory of its own.
 struct alignas(64) Place {
     blink_seat seat{};
     std::atomic<bool> is_in_call{false};
-    uint64_t entered = 0;
+    uint64_t entered = 0, taken = 0;
 };
 
 // A map's places. Who holds the lock may stop all calls, and may change the seats then.
@@ -93,7 +96,7 @@ struct Seats {
     std::vector<Place *> free; // those in no handle, with room for all
     std::atomic<bool> is_stopped{false};
     std::atomic<uint32_t> pages{0};
-    std::atomic<uint32_t> most{0}; // to so many pages it may grow
+    bool grows = true;
     bool is_closed = false;
     std::vector<uint8_t> rescued; // the image of a map that is lost
 
@@ -120,14 +123,19 @@ struct Seats {
         return bytes;
     }
 
+    // Waits until no call is made, and lets none begin. By whoever holds the lock.
+    void stop() noexcept {
+        is_stopped = true;
+        for (const Place &place : places)
+            while (place.is_in_call) std::this_thread::yield();
+    }
+
     // Gives the map so many pages, while no call is made. By whoever holds the lock.
     int32_t resize(uint32_t wanted) noexcept {
         if (is_closed) return BLINK_CLOSED;
         std::vector<uint8_t> bytes = image_room(pages);
         if (bytes.empty()) return BLINK_NO_MEMORY;
-        is_stopped = true;
-        for (const Place &place : places)
-            while (place.is_in_call) std::this_thread::yield();
+        stop();
         uint64_t length = 0;
         const int32_t code = with_seats([&](blink_seat *seats, size_t count) {
             return blink_resize(seats, count, wanted, bytes.data(), bytes.size(), &length);
@@ -147,9 +155,38 @@ struct Seats {
     // Whether it has more.
     bool grow(uint32_t from) noexcept {
         const std::lock_guard<std::mutex> hold(lock);
-        if (pages != from) return !is_closed;
-        const uint32_t end = most;
-        return from < end && resize(from > end / 2 ? end : 2 * from) == BLINK_OK;
+        if (pages != from) return pages > from && !is_closed;
+        return grows && from < MOST_PAGES && resize(std::min(2 * from, MOST_PAGES)) == BLINK_OK;
+    }
+
+    // Gives a map of so many pages half as many, unless another one has done it by then, or
+    // there is no memory for it.
+    void shrink(uint32_t from) noexcept {
+        const std::lock_guard<std::mutex> hold(lock);
+        if (pages != from || is_closed) return;
+        stop();
+#if defined(__cpp_exceptions)
+        try {
+            lay_out(from / 2);
+        } catch (const std::bad_alloc &) {
+        }
+#else
+        lay_out(from / 2);
+#endif
+        is_stopped = false;
+    }
+
+    // Gives the map so many pages, in which its rows are laid out anew.
+    void lay_out(uint32_t wanted) {
+        uint64_t count = 0;
+        if (blink_count(&places[0].seat, 0, UINT64_MAX, &count) != BLINK_OK) return;
+        std::vector<blink_row> rows(static_cast<size_t>(count) + 1);
+        std::vector<uint8_t> bytes(blink_image_length(wanted));
+        const int32_t code = with_seats([&](blink_seat *seats, size_t number) {
+            return blink_shrink(seats, number, wanted, rows.data(), rows.size(),
+                                bytes.data(), bytes.size());
+        });
+        if (code == BLINK_OK) pages = wanted;
     }
 
     // A call of all seats, which takes an array of them.
@@ -384,6 +421,7 @@ public:
         Value gone = 0;
         const int32_t code = enter(
             NOTHING, [&](blink_seat *seat) { return blink_delete(seat, key, &gone); });
+        if (code == BLINK_OK && ++place_->taken % 64 == 0) shrink();
         return some(code, BLINK_OK, BLINK_ABSENT, gone);
     }
     std::optional<Value> erase(Key key) { return erase(key, std::nothrow).value(); }
@@ -544,8 +582,16 @@ private:
     }
     bool is_short(uint32_t pages) const noexcept {
         bool is_short = false;
-        return pages < seats_->most &&
+        return seats_->grows && pages < detail::MOST_PAGES &&
                blink_is_short(call().seat(), &is_short) == BLINK_OK && is_short;
+    }
+    // The map shrinks, if less than an eighth of its pages is used.
+    void shrink() noexcept {
+        const uint32_t pages = seats_->pages;
+        bool is_sparse = false;
+        if (seats_->grows && pages >= 2 * detail::FIRST_PAGES &&
+            blink_is_sparse(call().seat(), &is_sparse) == BLINK_OK && is_sparse)
+            seats_->shrink(pages);
     }
 
     Range to_the_end(Key from, bool is_falling) {
@@ -603,14 +649,16 @@ private:
 class Map {
 public:
     // A map without rows, with 1 to 64 handles. It begins with 1,024 pages and grows.
-    explicit Map(size_t handles) : Map(1024, handles) { seats_->most = MOST_PAGES; }
-    // One of 4 to 2^28 pages (plan one for each six rows), which does not grow by itself.
+    explicit Map(size_t handles) : Map(detail::FIRST_PAGES, handles) {
+        seats_->grows = true;
+    }
+    // One of 4 to 2^28 pages (plan one for each six rows), which only resize() changes.
     Map(uint32_t pages, size_t handles) : seats_(made(handles)) {
         opened(seats_->with_seats([pages](blink_seat *seats, size_t count) {
             return blink_open(pages, seats, count);
         }));
         seats_->pages = pages;
-        seats_->most = pages;
+        seats_->grows = false;
     }
     // A map that begins with the rows of an image, as close_image() and `blink dump` make
     // it, and with its pages. It grows.
@@ -623,7 +671,6 @@ public:
         blink_stats stats{};
         opened(blink_stat(&seats.places[0].seat, false, &stats));
         seats.pages = static_cast<uint32_t>(stats.pages);
-        seats.most = MOST_PAGES;
         return map;
     }
 
@@ -652,9 +699,8 @@ public:
         const std::lock_guard<std::mutex> hold(seats_->lock);
         auto &seats = *seats_;
         const int32_t code = seats.resize(pages);
-        if (code == BLINK_OK) seats.most = std::max<uint32_t>(seats.most, pages);
-        else if (code == BLINK_SEATS_LOST) lose(seats.rescued);
-        else detail::refuse(code);
+        if (code == BLINK_SEATS_LOST) lose(seats.rescued);
+        if (code != BLINK_OK) detail::refuse(code);
     }
     // The image of a map that was lost as it grew: there was no memory to open it again,
     // and each call of it throws. Of any other map nothing.
@@ -684,7 +730,6 @@ public:
 
 private:
     explicit Map(std::shared_ptr<detail::Seats> seats) : seats_(std::move(seats)) {}
-    static constexpr uint32_t MOST_PAGES = uint32_t(1) << 28;
     static std::shared_ptr<detail::Seats> made(size_t handles) {
         if (handles < 1 || handles > 64) detail::refuse(BLINK_BAD_SEATS);
         return std::make_shared<detail::Seats>(handles);

@@ -240,6 +240,25 @@ static void grows(uint64_t rows) {
     CHECK(handle.find(1) == 0 && handle.count() > 4 * rows);
 }
 
+// A map that grows shrinks again once most rows have gone, and one with a number of pages does not. At the edge it does not flap.
+static void shrinks() {
+    blink::Map map(2), fixed(8192, 1);
+    auto handle = map.handle(), other = map.handle(), stays = fixed.handle();
+    for (uint64_t key = 0; key < 40000; key++) CHECK(handle.put(key, key + 1) == std::nullopt && stays.put(key, key + 1) == std::nullopt);
+    const uint32_t most = map.pages();
+    CHECK(most >= 4096);
+    for (uint64_t key = 0; key < 39900; key++) CHECK(handle.erase(key) == key + 1 && stays.erase(key) == key + 1);
+    CHECK(map.pages() == 1024 && fixed.pages() == 8192);
+    CHECK(other.count() == 100 && other.first() == blink::Row(39900, 39901) && other.find(39999) == 40000);
+    // A window of rows moves on: the number of pages stays where it is once it has been found.
+    for (uint64_t key = 40000; key < 50000; key++) other.insert(key, key);
+    const uint32_t found = map.pages();
+    for (uint64_t key = 50000; key < 150000; key++) {
+        other.insert(key, key);
+        CHECK(handle.erase(key - 10000) == key - 10000 && map.pages() == found);
+    }
+}
+
 static void edges() {
     blink::Map map(16, 1);
     {
@@ -322,6 +341,7 @@ int main(int count, char **words) {
     edges();
     is_resized();
     grows(uint64_t(steps));
+    shrinks();
     refusals();
     std::printf("%d steps as of a std::map, edges, growth beside five threads, refusals, five threads\n", 4 * steps);
 }

@@ -15,8 +15,8 @@
 //! # Ok::<(), blink::OpenError>(())
 //! ```
 //!
-//! A map grows by two as rows come, while the calls of other handles wait: a call takes long then, once for each doubling. One
-//! that is made with a number of pages keeps it.
+//! A map grows by two as rows come, and shrinks by two where less than an eighth of its pages is used, while the calls of other
+//! handles wait: a call takes long then, once for each doubling. One that is made with a number of pages keeps it.
 //!
 //! What the header asks of a caller is kept by types: a [`Handle`] owns its place, may go to another thread, and is not shared by
 //! two (`Send`, not `Sync`), and no call of it calls back. So its calls take `&self`, and a range may be listed while the same
@@ -38,7 +38,7 @@ pub use error::{CloseError, ExchangeError, NoRoom, NoRoomAfter, OpenError, Resiz
 pub use range::Range;
 
 use blink_sys::*;
-use seats::Seats;
+use seats::{Seats, FIRST_PAGES, MOST_PAGES};
 use std::cell::Cell;
 use std::ffi::CStr;
 use std::fmt;
@@ -54,10 +54,6 @@ const ROUNDS: u32 = 64;
 /// No code of the library: of a call that enters no row.
 const NOTHING: i32 = -1;
 
-/// With so many pages a map begins that grows.
-const FIRST_PAGES: u32 = 1024;
-/// So many it may have.
-const MOST_PAGES: u32 = 1 << 28;
 
 /// A map. Clones of it share its rows, and so do its handles, which may outlive it.
 #[derive(Clone)]
@@ -68,8 +64,9 @@ pub struct Map {
 /// One thread's place at a map. It goes back to the map when it is dropped.
 pub struct Handle {
     place: usize,
-    /// How many rows it has entered. The cell makes a handle one that is not `Sync`.
+    /// How many rows it has entered and taken away. The cells make a handle one that is not `Sync`.
     entered: Cell<u64>,
+    taken: Cell<u64>,
     seats: Arc<Seats>,
 }
 
@@ -86,16 +83,16 @@ impl Map {
     ///
     /// Where the handles are not 1 to 64, or there is no memory.
     pub fn growing(handles: usize) -> Result<Map, OpenError> {
-        Map::of(handles, MOST_PAGES, |seats, count| unsafe { blink_open(FIRST_PAGES, seats, count) })
+        Map::of(handles, true, |seats, count| unsafe { blink_open(FIRST_PAGES, seats, count) })
     }
 
-    /// One of 4 to 2^28 pages (plan one for each six rows), which does not grow by itself.
+    /// One of 4 to 2^28 pages (plan one for each six rows), which only [`Map::resize`] changes.
     ///
     /// # Errors
     ///
     /// Where a number is out of range, or there is no memory.
     pub fn new(pages: u32, handles: usize) -> Result<Map, OpenError> {
-        Map::of(handles, pages, |seats, count| unsafe { blink_open(pages, seats, count) })
+        Map::of(handles, false, |seats, count| unsafe { blink_open(pages, seats, count) })
     }
 
     /// A map that begins with the rows and the pages of an image, as [`Map::close_image`] and `blink dump` make it, and grows.
@@ -104,17 +101,17 @@ impl Map {
     ///
     /// Where the bytes are no sound image, the handles not 1 to 64, or there is no memory.
     pub fn from_image(image: &[u8], handles: usize) -> Result<Map, OpenError> {
-        Map::of(handles, MOST_PAGES, |seats, count| unsafe {
+        Map::of(handles, true, |seats, count| unsafe {
             blink_open_image(image.as_ptr(), image.len(), seats, count)
         })
     }
 
-    /// A map of so many handles that may have so many pages at most, which the call opens: it gets an array of closed seats.
-    fn of(handles: usize, most: u32, open: impl FnOnce(*mut blink_seat, usize) -> i32) -> Result<Map, OpenError> {
+    /// A map of so many handles, which the call opens: it gets an array of closed seats.
+    fn of(handles: usize, grows: bool, open: impl FnOnce(*mut blink_seat, usize) -> i32) -> Result<Map, OpenError> {
         if !(1..=64).contains(&handles) {
             return Err(OpenError::Handles);
         }
-        let seats = Seats::open(handles, most, open).map_err(OpenError::of)?;
+        let seats = Seats::open(handles, grows, open).map_err(OpenError::of)?;
         Ok(Map { seats: Arc::new(seats) })
     }
 
@@ -141,7 +138,7 @@ impl Map {
     /// A handle, if one is free.
     pub fn handle(&self) -> Option<Handle> {
         let place = self.seats.lock().free.pop()?;
-        Some(Handle { place, entered: Cell::new(0), seats: self.seats.clone() })
+        Some(Handle { place, entered: Cell::new(0), taken: Cell::new(0), seats: self.seats.clone() })
     }
 
     /// How many pages the map has.
@@ -249,11 +246,25 @@ impl Handle {
         }
     }
 
+    /// Behind each 64th row that is taken away the map shrinks, if less than an eighth of its pages is used.
+    fn note_taken(&self) {
+        self.taken.set(self.taken.get() + 1);
+        let pages = self.seats.pages();
+        if self.taken.get() % 64 != 0 || !self.seats.grows() || pages < 2 * FIRST_PAGES {
+            return;
+        }
+        let mut is_sparse = false;
+        let code = self.call(|seat| unsafe { blink_is_sparse(seat, &mut is_sparse) });
+        if code == BLINK_OK && is_sparse {
+            self.seats.shrink(pages);
+        }
+    }
+
     /// Whether a map of so many pages is to grow.
     fn is_short(&self, pages: u32) -> bool {
         let mut is_short = false;
         // SAFETY: here and below, the seat is this handle's alone, and each other pointer is of a local variable.
-        pages < self.seats.most() && self.call(|seat| unsafe { blink_is_short(seat, &mut is_short) }) == BLINK_OK && is_short
+        self.seats.grows() && pages < MOST_PAGES && self.call(|seat| unsafe { blink_is_short(seat, &mut is_short) }) == BLINK_OK && is_short
     }
 
     /// The key's value.
@@ -348,7 +359,10 @@ impl Handle {
     pub fn remove(&self, key: u64) -> Result<Option<u64>, NoRoom> {
         let mut gone = 0;
         match self.enter(NOTHING, |seat| unsafe { blink_delete(seat, key, &mut gone) }) {
-            BLINK_OK => Ok(Some(gone)),
+            BLINK_OK => {
+                self.note_taken();
+                Ok(Some(gone))
+            }
             BLINK_ABSENT => Ok(None),
             BLINK_NO_ROOM => Err(NoRoom),
             code => error::unexpected(code),

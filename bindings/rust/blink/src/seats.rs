@@ -5,6 +5,11 @@ use std::sync::atomic::{AtomicBool, AtomicU32, Ordering};
 use std::sync::{Mutex, MutexGuard, PoisonError};
 use std::thread;
 
+/// With so many pages a map begins that grows, and it has no fewer where it shrinks.
+pub(crate) const FIRST_PAGES: u32 = 1024;
+/// So many a map may have.
+pub(crate) const MOST_PAGES: u32 = 1 << 28;
+
 /// A handle's place: its seat, and whether the handle is in a call. Each call writes it, so it has a line of memory of its own.
 #[repr(align(64))]
 struct Place {
@@ -27,7 +32,7 @@ pub(crate) struct Seats {
     held: Mutex<Held>,
     is_stopped: AtomicBool,
     pages: AtomicU32,
-    most: AtomicU32,
+    grows: bool,
 }
 
 // SAFETY: a seat is used by the one handle that has its place, while it is in a call; or by who holds the lock, while no call is made.
@@ -60,8 +65,8 @@ impl Held {
 }
 
 impl Seats {
-    /// So many places of a map that may have so many pages at most, whose seats the call opens; or its code.
-    pub(crate) fn open(count: usize, most: u32, open: impl FnOnce(*mut blink_seat, usize) -> i32) -> Result<Seats, i32> {
+    /// So many places of a map, whose seats the call opens, and that grows and shrinks or does not; or the call's code.
+    pub(crate) fn open(count: usize, grows: bool, open: impl FnOnce(*mut blink_seat, usize) -> i32) -> Result<Seats, i32> {
         let closed = || Place {
             seat: UnsafeCell::new(blink_seat { at: std::ptr::null_mut() }),
             is_in_call: AtomicBool::new(false),
@@ -71,7 +76,7 @@ impl Seats {
             held: Mutex::new(Held { free: (0..count).rev().collect(), is_closed: false, rescued: Vec::new() }),
             is_stopped: AtomicBool::new(false),
             pages: AtomicU32::new(0),
-            most: AtomicU32::new(most),
+            grows,
         };
         let code = seats.with_seats(open);
         if code != BLINK_OK {
@@ -96,9 +101,9 @@ impl Seats {
         self.pages.load(Ordering::SeqCst)
     }
 
-    /// How many pages the map may have.
-    pub(crate) fn most(&self) -> u32 {
-        self.most.load(Ordering::SeqCst)
+    /// Whether the map grows and shrinks as rows come and go.
+    pub(crate) fn grows(&self) -> bool {
+        self.grows
     }
 
     /// Makes a call by the seat of a place, whose handle is in no other call. While the map is resized it waits.
@@ -128,24 +133,27 @@ impl Seats {
         code
     }
 
-    /// Gives the map so many pages while no call is made. The code is that of `blink_resize`.
-    pub(crate) fn resize(&self, held: &mut Held, pages: u32) -> i32 {
-        if held.is_closed {
-            return BLINK_CLOSED;
-        }
-        let mut bytes = Vec::new();
-        // SAFETY: the function takes any number.
-        let room = unsafe { blink_image_length(self.pages()) } as usize;
-        if bytes.try_reserve_exact(room).is_err() {
-            return BLINK_NO_MEMORY;
-        }
-        bytes.resize(room, 0);
+    /// Waits until no call is made, and lets none begin. By who holds the lock.
+    fn stop(&self) {
         self.is_stopped.store(true, Ordering::SeqCst);
         for place in &self.places {
             while place.is_in_call.load(Ordering::SeqCst) {
                 thread::yield_now();
             }
         }
+    }
+
+    /// Gives the map so many pages while no call is made. The code is that of `blink_resize`.
+    pub(crate) fn resize(&self, held: &mut Held, pages: u32) -> i32 {
+        if held.is_closed {
+            return BLINK_CLOSED;
+        }
+        // SAFETY: the function takes any number.
+        let mut bytes = match zeros(unsafe { blink_image_length(self.pages()) } as usize) {
+            Some(bytes) => bytes,
+            None => return BLINK_NO_MEMORY,
+        };
+        self.stop();
         let mut length = 0;
         // SAFETY: these are all seats of one map, none is in a call, and the other pointers are of a vector and a variable.
         let code = self.with_seats(|seats, count| unsafe {
@@ -153,7 +161,6 @@ impl Seats {
         });
         if code == BLINK_OK {
             self.pages.store(pages, Ordering::SeqCst);
-            self.most.fetch_max(pages, Ordering::SeqCst);
         } else if code == BLINK_SEATS_LOST {
             bytes.truncate(length as usize);
             held.rescued = bytes;
@@ -167,11 +174,51 @@ impl Seats {
     pub(crate) fn grow(&self, from: u32) -> bool {
         let mut held = self.lock();
         if self.pages() != from {
-            return !held.is_closed;
+            return self.pages() > from && !held.is_closed;
         }
-        let most = self.most();
-        from < most && self.resize(&mut held, from.saturating_mul(2).min(most)) == BLINK_OK
+        self.grows && from < MOST_PAGES && self.resize(&mut held, (2 * from).min(MOST_PAGES)) == BLINK_OK
     }
+
+    /// Gives a map of so many pages half as many, unless another one has done it by then, or there is no memory for it.
+    pub(crate) fn shrink(&self, from: u32) {
+        let held = self.lock();
+        if self.pages() != from || held.is_closed {
+            return;
+        }
+        self.stop();
+        self.lay_out(from / 2);
+        self.is_stopped.store(false, Ordering::SeqCst);
+    }
+
+    /// Gives the map so many pages, in which its rows are laid out anew, if there is memory for it. By who has stopped all calls.
+    fn lay_out(&self, pages: u32) -> Option<()> {
+        let mut count = 0;
+        // SAFETY: nobody else uses a seat now, and the other pointer is of a variable.
+        let code = unsafe { blink_count(self.places.first()?.seat.get(), 0, u64::MAX, &mut count) };
+        if code != BLINK_OK {
+            return None;
+        }
+        let mut rows: Vec<blink_row> = zeros(count as usize + 1)?;
+        // SAFETY: the function takes any number.
+        let mut bytes = zeros(unsafe { blink_image_length(pages) } as usize)?;
+        // SAFETY: these are all seats of one map, none is in a call, and the other pointers are of vectors, with their lengths behind them.
+        let code = self.with_seats(|seats, count| unsafe {
+            let (row, most, byte, room) = (rows.as_mut_ptr(), rows.len(), bytes.as_mut_ptr(), bytes.len());
+            blink_shrink(seats, count, pages, row, most, byte, room)
+        });
+        if code == BLINK_OK {
+            self.pages.store(pages, Ordering::SeqCst);
+        }
+        Some(())
+    }
+}
+
+/// So many zeros, if there is memory for them.
+fn zeros<T: Clone + Default>(count: usize) -> Option<Vec<T>> {
+    let mut zeros = Vec::new();
+    zeros.try_reserve_exact(count).ok()?;
+    zeros.resize(count, T::default());
+    Some(zeros)
 }
 
 impl Drop for Seats {

@@ -185,6 +185,28 @@ fn grows() {
     assert_eq!(handle.get(1), Some(0));
 }
 
+/// A map that grows shrinks again once most rows have gone, and one with a number of pages does not. At the edge it does not flap.
+#[test]
+fn shrinks() {
+    let (map, fixed) = (Map::growing(2).unwrap(), Map::new(8192, 1).unwrap());
+    let (handle, other, stays) = (map.handle().unwrap(), map.handle().unwrap(), fixed.handle().unwrap());
+    for k in 0..40_000 {
+        assert_eq!((handle.put(k, k + 1), stays.put(k, k + 1)), (Ok(None), Ok(None)));
+    }
+    assert!(map.pages() >= 4096);
+    for k in 0..39_900 {
+        assert_eq!((handle.remove(k), stays.remove(k)), (Ok(Some(k + 1)), Ok(Some(k + 1))));
+    }
+    assert_eq!((map.pages(), fixed.pages()), (1024, 8192));
+    assert_eq!((other.count(..), other.first(), other.get(39_999)), (100, Some((39_900, 39_901)), Some(40_000)));
+    // A window of rows moves on: the number of pages stays where it is once it has been found.
+    (40_000..50_000).for_each(|k| assert_eq!(other.insert(k, k), Ok(None)));
+    let found = map.pages();
+    for k in 50_000..150_000 {
+        assert_eq!((other.insert(k, k), handle.remove(k - 10_000), map.pages()), (Ok(None), Ok(Some(k - 10_000)), found));
+    }
+}
+
 /// Inserts the thread's rows, counts a row up that all have, and looks back.
 fn enters(handle: &Handle, thread: u64, rows: u64) {
     for n in 0..rows {
