@@ -253,7 +253,7 @@ BLINK_INLINE int32_t blink_shrink(blink_seat *seats, size_t count, uint32_t page
                                   size_t room);
 
 /* Whether less than an eighth of the pages is used: time to shrink, by two. A map that has
- * shrunk so has used less than a quarter, and is not soon short.
+ * shrunk so uses less than a quarter of them, and is not soon short.
  *   BLINK_OK          `*is_sparse` says so
  *   BLINK_CLOSED      the seat is closed; `*is_sparse` is as it was */
 BLINK_INLINE int32_t blink_is_sparse(blink_seat *seat, bool *is_sparse);

@@ -65,7 +65,7 @@ static void refuses(uint32_t pages, uint64_t count) {
 }
 
 int main(void) {
-    bool is_sparse = false;
+    bool is_sparse = false, is_short = true;
     uint32_t pages = PAGES;
     uint64_t key, gone, length = 0, growths = 0, shrinks = 0;
     need(blink_open(pages, seats, SEATS), BLINK_OK, "open");
@@ -84,8 +84,8 @@ int main(void) {
         pages /= 2;
         need(blink_shrink(seats, SEATS, pages, rows, ROWS + 1, bytes, LENGTH), BLINK_OK, "shrink");
         has(pages, key + 1, ROWS - key - 1);
-        need(blink_is_sparse(&seats[0], &is_sparse), BLINK_OK, "is_sparse");
-        holds(!is_sparse, "a map that has shrunk is not sparse");
+        need(blink_is_short(&seats[0], &is_short), BLINK_OK, "is_short");
+        holds(!is_short, "a map that has shrunk is not short");
         shrinks++;
     }
     refuses(pages, LEFT);
