@@ -2,12 +2,12 @@
  * look them up, by calls that come back at once. A call that was told BLINK_AGAIN is made again, and has to be answered within a million tries.
  * It says how many tries and how much time the longest call took: it is the scheduler's, where there are more threads than processors. */
 #include "blink.h"
+#include "drawn.h"
 
 #include <inttypes.h>
 #include <pthread.h>
 #include <stdio.h>
 #include <stdlib.h>
-#include <time.h>
 
 enum { MOST = 64, PAGES = 64, TRIES = 1000000 };
 
@@ -19,19 +19,6 @@ typedef struct worker {
 static blink_seat seats[MOST];
 static worker workers[MOST];
 static uint64_t keys, calls_each;
-
-static uint64_t now(void) {
-    struct timespec time;
-    clock_gettime(CLOCK_MONOTONIC, &time);
-    return (uint64_t)time.tv_sec * 1000000000u + (uint64_t)time.tv_nsec;
-}
-
-static uint64_t draw(worker *me, uint64_t limit) {
-    me->drawn ^= me->drawn << 13;
-    me->drawn ^= me->drawn >> 7;
-    me->drawn ^= me->drawn << 17;
-    return (me->drawn * 0x2545F4914F6CDD1Du >> 33) % limit;
-}
 
 /* One try of the call of a kind. */
 static int32_t try_call(worker *me, uint64_t kind, uint64_t key) {
@@ -47,7 +34,7 @@ static int32_t try_call(worker *me, uint64_t kind, uint64_t key) {
 static void *work(void *place) {
     worker *me = place;
     for (me->made = 0; me->made < calls_each; me->made++) {
-        const uint64_t kind = draw(me, 4), key = draw(me, keys), begin = now();
+        const uint64_t kind = draw(&me->drawn, 4), key = draw(&me->drawn, keys), begin = now();
         uint64_t tries = 1, took;
         int32_t answer;
         while ((answer = try_call(me, kind, key)) == BLINK_AGAIN) {
