@@ -26,6 +26,7 @@ impl Seat {
     ghost use Rattle.std.specs.Prelude.{◌≡◌, ◌+◌, ◌≤◌, ◌↔◌, MatchOption, length, true};
     ghost use Rattle.bl_model.specs.declared.operation.Op.TheVariants as op;
     ghost use Rattle.bl_model.specs.Replies.{reply_of};
+    ghost use Rattle.bl_model.specs.Writes.{write_op};
     ghost use Rattle.bl_proc.specs.Parts.{op_toward};
     ghost use Rattle.bl_index.specs.Calls.{pages_of, frames_of};
     ghost use Rattle.bl_waiting.specs.Queue.{hints_of};
@@ -71,7 +72,7 @@ impl Seat {
     /// yet, or a page was another thread's. It has not been done, and nothing of it is left: it is to be made again, or not.
     pub fn write(&mut self, key: u64, write: KeyWrite) -> Option<KeyReply>
         ensures same { IsSameSeat self.old self.new }
-        ensures written { MatchOption result (HasNotWritten self.old self.new) (λ reply. HasWritten key write reply self.old self.new) }
+        ensures written { MatchOption result (HasNotWritten self.old self.new) (λ reply. HasWritten (write_op key write) key write reply self.old self.new) }
     {
         trying::try_write(
             &self.index,

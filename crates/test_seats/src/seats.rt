@@ -164,7 +164,7 @@ fn a_part_has_the_rows_from_its_key_on(rt: HostRuntime) {
 fn ranged(alloc: Global, seat: &mut Seat, from: u64, to: Option<u64>) -> Vec<(u64, u64)>
     requires { IsBelow to from }
 {
-    match seat.range(alloc, from, to, 0) {
+    match seat.range(alloc, from, to, 0, 8) {
         Ok(rows) => rows,
         Err(_) => Vec::new(alloc),
     }
