@@ -231,12 +231,12 @@ fn list(
     };
     let answer = mine.part(direction, from, &mut near);
     put_back(alloc, seat, mine);
-    match answer {
-        Some(reply) => {
-            listed(&reply, near.unwrap_or(0), rows, part);
+    match &answer {
+        Ok(reply) => {
+            listed(reply, near.unwrap_or(0), rows, part);
             OK
         }
-        None => AGAIN,
+        Err(_) => AGAIN,
     }
 }
 
