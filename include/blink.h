@@ -234,6 +234,30 @@ BLINK_INLINE int32_t blink_resize(blink_seat *seats, size_t count, uint32_t page
  *   BLINK_CLOSED      the seat is closed; `*is_short` is as it was */
 BLINK_INLINE int32_t blink_is_short(blink_seat *seat, bool *is_short);
 
+/* Gives a map fewer pages, by all its seats, while no other thread is in a call of it: its
+ * rows are listed into the array `rows`, which has room for `most` of them, an image of
+ * them is made in an array with room for so many bytes, twelve rows a leaf, a map of so
+ * many pages is opened from that, and then the old one is closed. But for BLINK_OK the map
+ * is as it was. A seat that is not among these would keep the old map for itself.
+ *   BLINK_OK          it has so many pages
+ *   BLINK_BAD_PAGES   `pages` is not 4 to 2^28
+ *   BLINK_BAD_SEATS   `count` is not 1 to 64
+ *   BLINK_FEW_ROWS    the map has more rows than `most`, or as many
+ *   BLINK_NO_ROOM     the rows need more pages
+ *   BLINK_FEW_BYTES   `room` is less than blink_image_length(pages)
+ *   BLINK_NO_MEMORY   malloc refused
+ *   BLINK_CLOSED, BLINK_OTHER_MAP
+ *                     as of blink_close_image */
+BLINK_INLINE int32_t blink_shrink(blink_seat *seats, size_t count, uint32_t pages,
+                                  blink_row *rows, size_t most, uint8_t *bytes,
+                                  size_t room);
+
+/* Whether less than an eighth of the pages is used: time to shrink, by two. A map that has
+ * shrunk so uses less than a quarter of them, and is not soon short.
+ *   BLINK_OK          `*is_sparse` says so
+ *   BLINK_CLOSED      the seat is closed; `*is_sparse` is as it was */
+BLINK_INLINE int32_t blink_is_sparse(blink_seat *seat, bool *is_sparse);
+
 /* Writes the image of a map of so many pages with these rows, whose keys rise: `fill` of
  * them, 1 to 14, in each leaf but the first. It is as blink_close_image's.
  *   BLINK_OK          the first `*length` bytes are the image
@@ -921,6 +945,43 @@ BLINK_INLINE int32_t blink_resize(blink_seat *seats, size_t count, uint32_t page
     return blink_open_image(bytes, (size_t)*length, seats, count) == BLINK_OK
                ? answer
                : BLINK_SEATS_LOST;
+}
+
+BLINK_INLINE int32_t blink_is_sparse(blink_seat *seat, bool *is_sparse) {
+    blink_stats stats = { 0, 0, 0, 0, 0, 0, 0 };
+    int32_t answer;
+    BLINK_CALL_(seat, blink_stat, answer, false, &stats);
+    if (answer == BLINK_OK)
+        *is_sparse = stats.free_pages > stats.pages - stats.pages / 8;
+    return answer;
+}
+
+BLINK_INLINE int32_t blink_shrink(blink_seat *seats, size_t count, uint32_t pages,
+                                  blink_row *rows, size_t most, uint8_t *bytes,
+                                  size_t room) {
+    enum { BLINK_A_LEAF = 12 };
+    blink_seat fresh[64] = { BLINK_SEAT_INIT };
+    uint64_t next = 0, length = 0;
+    size_t i, listed = 0;
+    bool more = false;
+    int32_t answer;
+    if (count < 1 || count > 64) return BLINK_BAD_SEATS;
+    for (i = 0; i < count; i++) {
+        answer = blink_together_(&seats[0], &seats[i], "blink_shrink", NULL);
+        if (answer != BLINK_OK) return answer;
+    }
+    answer = blink_scan_to(&seats[0], 0, UINT64_MAX, rows, most, &listed, &next, &more);
+    if (answer != BLINK_OK) return answer;
+    if (more) return BLINK_FEW_ROWS;
+    answer = blink_image_of(rows, listed, pages, BLINK_A_LEAF, bytes, room, &length);
+    if (answer != BLINK_OK) return answer;
+    answer = blink_open_image(bytes, (size_t)length, fresh, count);
+    if (answer != BLINK_OK) return answer;
+    for (i = 0; i < count; i++) {
+        blink_close(&seats[i]);
+        seats[i] = fresh[i];
+    }
+    return BLINK_OK;
 }
 
 BLINK_INLINE const char *blink_text(int32_t code) {

@@ -1,6 +1,6 @@
 // blink.hpp: the map for C++17, over blink.h.
 //
-//     blink::Map map(4096, 8);                             // pages, and handles at once
+//     blink::Map map(8);                                   // handles at once
 //     blink::Handle handle = map.handle();                 // one for each thread
 //     handle.insert(5, 50);
 //     for (auto [key, value] : handle.range(0, 100)) ...   // keys 0 to 99, rising
@@ -10,7 +10,11 @@
 // has changed. With std::nothrow as its last argument it throws nothing, and answers a
 // blink::Result, which has the value or the code.
 //
-// What blink.h asks of a caller is kept by types: a Handle owns its seat, is moved, not
+// A map grows by two as rows come, and shrinks by two where less than an eighth of its
+// pages is used, while the calls of other handles wait: a call takes long then, once for
+// each doubling. One that is made with a number of pages keeps it.
+//
+// What blink.h asks of a caller is kept by types: a Handle owns its place, is moved, not
 // copied, and is used by one thread at a time. Maps are copied and shared; handles may
 // outlive them. In the child of a fork of a program with threads no call may be made.
 #pragma once
@@ -28,6 +32,7 @@
 #include <new>
 #include <optional>
 #include <stdexcept>
+#include <thread>
 #include <utility>
 #include <vector>
 
@@ -74,21 +79,144 @@ namespace detail {
 #endif
 }
 
-// The seats of a map that are in no handle, with room for all, so that a seat goes back
-// without an allocation.
+constexpr uint32_t FIRST_PAGES = 1024, MOST_PAGES = uint32_t(1) << 28;
+
+// A handle's place at a map: its seat, whether it is in a call, and how many rows it has
+// entered and taken away. Each call writes it, so it has a line of memory of its own.
+struct alignas(64) Place {
+    blink_seat seat{};
+    std::atomic<bool> is_in_call{false};
+    uint64_t entered = 0, taken = 0;
+};
+
+// A map's places. Who holds the lock may stop all calls, and may change the seats then.
 struct Seats {
     std::mutex lock;
-    std::vector<blink_seat> free;
+    std::vector<Place> places;
+    std::vector<Place *> free; // those in no handle, with room for all
+    std::atomic<bool> is_stopped{false};
     std::atomic<uint32_t> pages{0};
-    size_t handles = 0;
+    bool grows = true;
     bool is_closed = false;
+    std::vector<uint8_t> rescued; // the image of a map that is lost
 
-    Seats() = default;
+    explicit Seats(size_t handles) : places(handles) {
+        for (Place &place : places) free.push_back(&place);
+    }
     Seats(const Seats &) = delete;
     Seats &operator=(const Seats &) = delete;
     ~Seats() {
-        for (blink_seat &seat : free) blink_close(&seat);
+        for (Place &place : places) blink_close(&place.seat);
     }
+
+    // Room for an image of so many pages; nothing where there is no memory for it.
+    static std::vector<uint8_t> image_room(uint32_t pages) noexcept {
+        std::vector<uint8_t> bytes;
+#if defined(__cpp_exceptions)
+        try {
+            bytes.resize(blink_image_length(pages));
+        } catch (const std::bad_alloc &) {
+        }
+#else
+        bytes.resize(blink_image_length(pages));
+#endif
+        return bytes;
+    }
+
+    // Waits until no call is made, and lets none begin. By whoever holds the lock.
+    void stop() noexcept {
+        is_stopped = true;
+        for (const Place &place : places)
+            while (place.is_in_call) std::this_thread::yield();
+    }
+
+    // Gives the map so many pages, while no call is made. By whoever holds the lock.
+    int32_t resize(uint32_t wanted) noexcept {
+        if (is_closed) return BLINK_CLOSED;
+        std::vector<uint8_t> bytes = image_room(pages);
+        if (bytes.empty()) return BLINK_NO_MEMORY;
+        stop();
+        uint64_t length = 0;
+        const int32_t code = with_seats([&](blink_seat *seats, size_t count) {
+            return blink_resize(seats, count, wanted, bytes.data(), bytes.size(), &length);
+        });
+        if (code == BLINK_OK) pages = wanted;
+        if (code == BLINK_SEATS_LOST) {
+            bytes.resize(static_cast<size_t>(length));
+            rescued = std::move(bytes);
+            free.clear();
+            is_closed = true;
+        }
+        is_stopped = false;
+        return code;
+    }
+
+    // Gives a map of so many pages twice as many, unless another one has done it by then.
+    // Whether it has more.
+    bool grow(uint32_t from) noexcept {
+        const std::lock_guard<std::mutex> hold(lock);
+        if (pages != from) return pages > from && !is_closed;
+        return grows && from < MOST_PAGES && resize(std::min(2 * from, MOST_PAGES)) == BLINK_OK;
+    }
+
+    // Gives a map of so many pages half as many, unless another one has done it by then, or
+    // there is no memory for it.
+    void shrink(uint32_t from) noexcept {
+        const std::lock_guard<std::mutex> hold(lock);
+        if (pages != from || is_closed) return;
+        stop();
+#if defined(__cpp_exceptions)
+        try {
+            lay_out(from / 2);
+        } catch (const std::bad_alloc &) {
+        }
+#else
+        lay_out(from / 2);
+#endif
+        is_stopped = false;
+    }
+
+    // Gives the map so many pages, in which its rows are laid out anew.
+    void lay_out(uint32_t wanted) {
+        uint64_t count = 0;
+        if (blink_count(&places[0].seat, 0, UINT64_MAX, &count) != BLINK_OK) return;
+        std::vector<blink_row> rows(static_cast<size_t>(count) + 1);
+        std::vector<uint8_t> bytes(blink_image_length(wanted));
+        const int32_t code = with_seats([&](blink_seat *seats, size_t number) {
+            return blink_shrink(seats, number, wanted, rows.data(), rows.size(),
+                                bytes.data(), bytes.size());
+        });
+        if (code == BLINK_OK) pages = wanted;
+    }
+
+    // A call of all seats, which takes an array of them.
+    template <class Function> int32_t with_seats(Function &&calls) noexcept {
+        std::array<blink_seat, 64> seats{};
+        for (size_t at = 0; at < places.size(); at++) seats[at] = places[at].seat;
+        const int32_t code = calls(seats.data(), places.size());
+        for (size_t at = 0; at < places.size(); at++) places[at].seat = seats[at];
+        return code;
+    }
+};
+
+// A call of a place. Who resizes the map waits for its end, and it waits for them.
+class Call {
+public:
+    Call(Seats &seats, Place &place) noexcept : place_(place) {
+        for (;;) {
+            place_.is_in_call = true;
+            if (!seats.is_stopped) return;
+            place_.is_in_call = false;
+            const std::lock_guard<std::mutex> wait(seats.lock);
+        }
+    }
+    ~Call() { place_.is_in_call.store(false, std::memory_order_release); }
+    Call(const Call &) = delete;
+    Call &operator=(const Call &) = delete;
+    blink_seat *seat() const noexcept { return &place_.seat; }
+
+private:
+    Place &place_;
 };
 
 } // namespace detail
@@ -143,7 +271,7 @@ enum class Exchanged {
 
 // The rows of a range of keys, rising or falling, for a `for`. It goes along once. Each
 // leaf is read at one moment; the whole is no snapshot. Rows may be changed meanwhile,
-// also by the same handle, which has to stay where it is as long as the range is used.
+// also by the same handle, which has to be there as long as the range is used.
 class Range {
 public:
     class iterator {
@@ -205,15 +333,18 @@ public:
 
 private:
     friend class Handle;
-    Range(blink_seat *seat, Key low, Key high, bool is_falling)
-        : seat_(seat), next_(is_falling ? high : low), last_(is_falling ? low : high),
-          more_(low <= high), is_falling_(is_falling) {}
+    Range(detail::Seats *seats, detail::Place *place, Key low, Key high, bool is_falling)
+        : seats_(seats), place_(place), next_(is_falling ? high : low),
+          last_(is_falling ? low : high), more_(low <= high), is_falling_(is_falling) {}
 
     // Reads further rows. Few at first, since many ranges are left early.
     void read() {
         const auto scan = is_falling_ ? blink_scan_down_to : blink_scan_to;
-        const int32_t code =
-            scan(seat_, next_, last_, rows_.data(), room_, &count_, &next_, &more_);
+        const int32_t code = [this, scan] {
+            const detail::Call call(*seats_, *place_);
+            return scan(call.seat(), next_, last_, rows_.data(), room_, &count_, &next_,
+                        &more_);
+        }();
         at_ = 0;
         if (code != BLINK_OK) {
             count_ = 0;
@@ -223,7 +354,8 @@ private:
         room_ = rows_.size();
     }
 
-    blink_seat *seat_;
+    detail::Seats *seats_;
+    detail::Place *place_;
     Key next_, last_;
     bool more_, is_falling_;
     size_t at_ = 0, count_ = 0, room_ = 32;
@@ -234,13 +366,12 @@ private:
 class Handle {
 public:
     Handle(Handle &&other) noexcept
-        : seats_(std::move(other.seats_)),
-          seat_(std::exchange(other.seat_, blink_seat{})) {}
-    // The seat that it had goes back.
+        : seats_(std::move(other.seats_)), place_(std::exchange(other.place_, nullptr)) {}
+    // The place that it had goes back.
     Handle &operator=(Handle &&other) noexcept {
         Handle taken(std::move(other));
         std::swap(seats_, taken.seats_);
-        std::swap(seat_, taken.seat_);
+        std::swap(place_, taken.place_);
         return *this;
     }
     Handle(const Handle &) = delete;
@@ -248,13 +379,13 @@ public:
     ~Handle() {
         if (!seats_) return;
         const std::lock_guard<std::mutex> hold(seats_->lock);
-        seats_->free.push_back(seat_);
+        if (!seats_->is_closed) seats_->free.push_back(place_);
     }
 
     // The key's value, if it is there.
     Result<std::optional<Value>> find(Key key, std::nothrow_t) noexcept {
         Value value = 0;
-        const int32_t code = blink_find(&seat_, key, &value);
+        const int32_t code = blink_find(call().seat(), key, &value);
         return some(code, BLINK_OK, BLINK_ABSENT, value);
     }
     std::optional<Value> find(Key key) { return find(key, std::nothrow).value(); }
@@ -263,7 +394,9 @@ public:
     // Puts the value at the key where it has none.
     Result<Inserted> insert(Key key, Value value, std::nothrow_t) noexcept {
         Value there = 0;
-        const int32_t code = blink_insert(&seat_, key, value, &there);
+        const int32_t code = enter(BLINK_OK, [&](blink_seat *seat) {
+            return blink_insert(seat, key, value, &there);
+        });
         if (code == BLINK_OK) return Inserted{value, true};
         if (code == BLINK_PRESENT) return Inserted{there, false};
         return Result<Inserted>::refused(code);
@@ -275,7 +408,8 @@ public:
     // Puts the value at the key, whatever is there: the value that was there.
     Result<std::optional<Value>> put(Key key, Value value, std::nothrow_t) noexcept {
         Value old = 0;
-        const int32_t code = blink_put(&seat_, key, value, &old);
+        const int32_t code = enter(
+            BLINK_OK, [&](blink_seat *seat) { return blink_put(seat, key, value, &old); });
         return some(code, BLINK_PRESENT, BLINK_OK, old);
     }
     std::optional<Value> put(Key key, Value value) {
@@ -285,7 +419,9 @@ public:
     // Takes the key away: the value that it had.
     Result<std::optional<Value>> erase(Key key, std::nothrow_t) noexcept {
         Value gone = 0;
-        const int32_t code = blink_delete(&seat_, key, &gone);
+        const int32_t code = enter(
+            NOTHING, [&](blink_seat *seat) { return blink_delete(seat, key, &gone); });
+        if (code == BLINK_OK && ++place_->taken % 64 == 0) shrink();
         return some(code, BLINK_OK, BLINK_ABSENT, gone);
     }
     std::optional<Value> erase(Key key) { return erase(key, std::nothrow).value(); }
@@ -294,7 +430,9 @@ public:
     Result<Exchanged> compare_exchange(Key key, Value &expected, Value desired,
                                        std::nothrow_t) noexcept {
         Value there = 0;
-        const int32_t code = blink_change(&seat_, key, expected, desired, &there);
+        const int32_t code = enter(NOTHING, [&](blink_seat *seat) {
+            return blink_change(seat, key, expected, desired, &there);
+        });
         if (code == BLINK_OK) return Exchanged::done;
         if (code == BLINK_ABSENT) return Exchanged::absent;
         if (code != BLINK_PRESENT) return Result<Exchanged>::refused(code);
@@ -310,13 +448,16 @@ public:
     // What it throws ends the call, and nothing has changed.
     template <class Function>
     Result<std::optional<Value>> update(Key key, Function &&make, std::nothrow_t) {
-        Value old = 0, now = 0;
-        auto call = [&make](Value value) -> Value { return make(value); };
-        const auto made = [](uint64_t value, void *asked) -> uint64_t {
-            return (*static_cast<decltype(call) *>(asked))(value);
-        };
-        const int32_t code = blink_update(&seat_, key, made, &call, &old, &now);
-        return some(code, BLINK_OK, BLINK_ABSENT, old);
+        auto found = find(key, std::nothrow);
+        while (found && *found) {
+            const Value old = **found;
+            Value there = old;
+            const auto done = compare_exchange(key, there, make(old), std::nothrow);
+            if (!done) return Result<std::optional<Value>>::refused(done.code());
+            if (*done == Exchanged::done) break;
+            found = *done == Exchanged::absent ? std::nullopt : std::optional<Value>(there);
+        }
+        return found;
     }
     template <class Function> std::optional<Value> update(Key key, Function &&make) {
         return update(key, make, std::nothrow).value();
@@ -326,7 +467,8 @@ public:
     // and is inserted.
     Result<Value> add(Key key, Value delta, std::nothrow_t) noexcept {
         Value now = 0;
-        const int32_t code = blink_add(&seat_, key, delta, &now);
+        const int32_t code = enter(
+            BLINK_OK, [&](blink_seat *seat) { return blink_add(seat, key, delta, &now); });
         if (code == BLINK_OK || code == BLINK_PRESENT) return now;
         return Result<Value>::refused(code);
     }
@@ -336,7 +478,8 @@ public:
     // then, else 0. How many are there.
     Result<size_t> get_many(const Key *keys, size_t count, Value *values, bool *found,
                             std::nothrow_t) noexcept {
-        const int32_t code = blink_find_many(&seat_, keys, count, values, found);
+        const int32_t code =
+            blink_find_many(call().seat(), keys, count, values, found);
         if (code != BLINK_OK) return Result<size_t>::refused(code);
         return static_cast<size_t>(std::count(found, found + count, true));
     }
@@ -352,10 +495,10 @@ public:
     }
 
     // All rows, those from a key on, or those from a key on and below another one.
-    Range range(Key from = 0) { return Range(&seat_, from, UINT64_MAX, false); }
+    Range range(Key from = 0) { return to_the_end(from, false); }
     Range range(Key from, Key below) { return bounded(from, below, false); }
     // The same rows by falling keys.
-    Range range_down(Key from = 0) { return Range(&seat_, from, UINT64_MAX, true); }
+    Range range_down(Key from = 0) { return to_the_end(from, true); }
     Range range_down(Key from, Key below) { return bounded(from, below, true); }
 
     // All rows of such a range as the map had them at one moment. Where others change them
@@ -375,19 +518,19 @@ public:
     // The first and the last row, and those of the next greater and the next smaller key.
     std::optional<Row> first() {
         blink_row row{};
-        return row_of(blink_first(&seat_, &row), row);
+        return row_of(blink_first(call().seat(), &row), row);
     }
     std::optional<Row> last() {
         blink_row row{};
-        return row_of(blink_last(&seat_, &row), row);
+        return row_of(blink_last(call().seat(), &row), row);
     }
     std::optional<Row> next(Key key) {
         blink_row row{};
-        return row_of(blink_next(&seat_, key, &row), row);
+        return row_of(blink_next(call().seat(), key, &row), row);
     }
     std::optional<Row> previous(Key key) {
         blink_row row{};
-        return row_of(blink_previous(&seat_, key, &row), row);
+        return row_of(blink_previous(call().seat(), key, &row), row);
     }
 
     // How many rows there are, from a key on, or from a key on and below another one. It
@@ -400,7 +543,7 @@ public:
     // Does so many pieces of upkeep at most: whether nothing is left to do. No program
     // need call it.
     bool upkeep(uint32_t most) {
-        const int32_t code = blink_upkeep(&seat_, most);
+        const int32_t code = blink_upkeep(call().seat(), most);
         if (code != BLINK_OK && code != BLINK_AGAIN) detail::refuse(code);
         return code == BLINK_OK;
     }
@@ -409,28 +552,63 @@ public:
     // upkeep this handle has left to do: exact where no other handle is in a call.
     blink_stats stats() {
         blink_stats stats{};
-        const int32_t code = blink_stat(&seat_, true, &stats);
+        const int32_t code = blink_stat(call().seat(), true, &stats);
         if (code != BLINK_OK) detail::refuse(code);
         return stats;
     }
 
 private:
     friend class Map;
-    Handle(std::shared_ptr<detail::Seats> seats, blink_seat seat) noexcept
-        : seats_(std::move(seats)), seat_(seat) {}
+    Handle(std::shared_ptr<detail::Seats> seats, detail::Place *place) noexcept
+        : seats_(std::move(seats)), place_(place) {}
 
+    // No code: of a call that enters no row.
+    static constexpr int32_t NOTHING = -1;
+
+    // A call, until the end of the expression in which it is made.
+    detail::Call call() const noexcept { return detail::Call(*seats_, *place_); }
+
+    // A write, of which that code says that it has entered a row. Behind each 64th row the
+    // map grows where it is short of pages; where the write found no room, it is made
+    // again once the map has grown.
+    template <class Function> int32_t enter(int32_t is_new, Function &&write) noexcept {
+        for (;;) {
+            const uint32_t pages = seats_->pages;
+            const int32_t code = write(call().seat());
+            if (code == is_new && ++place_->entered % 64 == 0 && is_short(pages))
+                seats_->grow(pages);
+            if (code != BLINK_NO_ROOM || !seats_->grow(pages)) return code;
+        }
+    }
+    bool is_short(uint32_t pages) const noexcept {
+        bool is_short = false;
+        return seats_->grows && pages < detail::MOST_PAGES &&
+               blink_is_short(call().seat(), &is_short) == BLINK_OK && is_short;
+    }
+    // The map shrinks, if less than an eighth of its pages is used.
+    void shrink() noexcept {
+        const uint32_t pages = seats_->pages;
+        bool is_sparse = false;
+        if (seats_->grows && pages >= 2 * detail::FIRST_PAGES &&
+            blink_is_sparse(call().seat(), &is_sparse) == BLINK_OK && is_sparse)
+            seats_->shrink(pages);
+    }
+
+    Range to_the_end(Key from, bool is_falling) {
+        return Range(seats_.get(), place_, from, UINT64_MAX, is_falling);
+    }
     // No key is below 0.
     Range bounded(Key from, Key below, bool is_falling) {
-        if (below == 0) return Range(&seat_, 1, 0, is_falling);
-        return Range(&seat_, from, below - 1, is_falling);
+        if (below == 0) return Range(seats_.get(), place_, 1, 0, is_falling);
+        return Range(seats_.get(), place_, from, below - 1, is_falling);
     }
     // With more room where there was too little.
     Result<std::vector<Row>> at_once(Key from, Key last, uint32_t rounds) {
         std::vector<blink_row> rows(256);
         uint64_t count = 0;
         for (;;) {
-            const int32_t code = blink_range(&seat_, from, last, rounds, rows.data(),
-                                             rows.size(), &count);
+            const int32_t code = blink_range(call().seat(), from, last, rounds,
+                                             rows.data(), rows.size(), &count);
             if (code == BLINK_OK) break;
             if (code != BLINK_FEW_ROWS)
                 return Result<std::vector<Row>>::refused(code);
@@ -444,7 +622,7 @@ private:
     }
     uint64_t counted(Key from, Key last) {
         uint64_t rows = 0;
-        const int32_t code = blink_count(&seat_, from, last, &rows);
+        const int32_t code = blink_count(call().seat(), from, last, &rows);
         if (code != BLINK_OK) detail::refuse(code);
         return rows;
     }
@@ -464,26 +642,34 @@ private:
     }
 
     std::shared_ptr<detail::Seats> seats_;
-    blink_seat seat_;
+    detail::Place *place_;
 };
 
 // A map. Copies of it share the rows.
 class Map {
 public:
-    // A map without rows, of 4 to 2^28 pages (plan one for each six rows), with 1 to 64
-    // handles.
+    // A map without rows, with 1 to 64 handles. It begins with 1,024 pages and grows.
+    explicit Map(size_t handles) : Map(detail::FIRST_PAGES, handles) {
+        seats_->grows = true;
+    }
+    // One of 4 to 2^28 pages (plan one for each six rows), which only resize() changes.
     Map(uint32_t pages, size_t handles) : seats_(made(handles)) {
-        opened(blink_open(pages, seats_->free.data(), handles));
+        opened(seats_->with_seats([pages](blink_seat *seats, size_t count) {
+            return blink_open(pages, seats, count);
+        }));
         seats_->pages = pages;
+        seats_->grows = false;
     }
     // A map that begins with the rows of an image, as close_image() and `blink dump` make
-    // it.
+    // it, and with its pages. It grows.
     static Map from_image(const std::vector<uint8_t> &image, size_t handles) {
         Map map(made(handles));
         auto &seats = *map.seats_;
-        opened(blink_open_image(image.data(), image.size(), seats.free.data(), handles));
+        opened(seats.with_seats([&image](blink_seat *all, size_t count) {
+            return blink_open_image(image.data(), image.size(), all, count);
+        }));
         blink_stats stats{};
-        opened(blink_stat(seats.free.data(), false, &stats));
+        opened(blink_stat(&seats.places[0].seat, false, &stats));
         seats.pages = static_cast<uint32_t>(stats.pages);
         return map;
     }
@@ -492,9 +678,9 @@ public:
     std::optional<Handle> try_handle() {
         const std::lock_guard<std::mutex> hold(seats_->lock);
         if (seats_->free.empty()) return std::nullopt;
-        const blink_seat seat = seats_->free.back();
+        detail::Place *place = seats_->free.back();
         seats_->free.pop_back();
-        return Handle(seats_, seat);
+        return Handle(seats_, place);
     }
     // The same; std::runtime_error where all handles are out, or the map is closed.
     Handle handle() {
@@ -507,25 +693,20 @@ public:
     }
     uint32_t pages() const noexcept { return seats_->pages; }
 
-    // Gives the map so many pages, as many as it has or more, if all handles are back. Else,
-    // or without memory, it throws, and the map is as it was; or it throws Lost.
+    // Gives the map so many pages, as many as it has or more, while the calls of all
+    // handles wait. Without memory it throws, and the map is as it was; or it throws Lost.
     void resize(uint32_t pages) {
         const std::lock_guard<std::mutex> hold(seats_->lock);
         auto &seats = *seats_;
-        std::vector<uint8_t> bytes = room_for_image(seats);
-        uint64_t length = 0;
-        const int32_t code = blink_resize(seats.free.data(), seats.free.size(), pages,
-                                          bytes.data(), bytes.size(), &length);
-        if (code == BLINK_OK) {
-            seats.pages = pages;
-        } else if (code == BLINK_SEATS_LOST) {
-            seats.free.clear();
-            seats.is_closed = true;
-            bytes.resize(length);
-            lose(std::move(bytes));
-        } else {
-            detail::refuse(code);
-        }
+        const int32_t code = seats.resize(pages);
+        if (code == BLINK_SEATS_LOST) lose(seats.rescued);
+        if (code != BLINK_OK) detail::refuse(code);
+    }
+    // The image of a map that was lost as it grew: there was no memory to open it again,
+    // and each call of it throws. Of any other map nothing.
+    std::vector<uint8_t> rescued() const {
+        const std::lock_guard<std::mutex> hold(seats_->lock);
+        return seats_->rescued;
     }
 
     // Closes the map, if all handles are back: its image. Else, or without memory, it
@@ -533,14 +714,17 @@ public:
     std::vector<uint8_t> close_image() {
         const std::lock_guard<std::mutex> hold(seats_->lock);
         auto &seats = *seats_;
-        std::vector<uint8_t> bytes = room_for_image(seats);
+        if (seats.is_closed) detail::refuse(BLINK_CLOSED);
+        if (seats.free.size() != seats.places.size()) detail::refuse(BLINK_SEATS_OPEN);
+        std::vector<uint8_t> bytes(blink_image_length(seats.pages));
         uint64_t length = 0;
-        const int32_t code = blink_close_image(seats.free.data(), seats.free.size(),
-                                               bytes.data(), bytes.size(), &length);
+        const int32_t code = seats.with_seats([&](blink_seat *all, size_t count) {
+            return blink_close_image(all, count, bytes.data(), bytes.size(), &length);
+        });
         if (code != BLINK_OK) detail::refuse(code);
         seats.free.clear();
         seats.is_closed = true;
-        bytes.resize(length);
+        bytes.resize(static_cast<size_t>(length));
         return bytes;
     }
 
@@ -548,19 +732,10 @@ private:
     explicit Map(std::shared_ptr<detail::Seats> seats) : seats_(std::move(seats)) {}
     static std::shared_ptr<detail::Seats> made(size_t handles) {
         if (handles < 1 || handles > 64) detail::refuse(BLINK_BAD_SEATS);
-        auto seats = std::make_shared<detail::Seats>();
-        seats->free.assign(handles, blink_seat{});
-        seats->handles = handles;
-        return seats;
+        return std::make_shared<detail::Seats>(handles);
     }
     static void opened(int32_t code) {
         if (code != BLINK_OK) detail::refuse(code);
-    }
-    // Room for the image of a map that is open, with all handles back.
-    static std::vector<uint8_t> room_for_image(const detail::Seats &seats) {
-        if (seats.is_closed) detail::refuse(BLINK_CLOSED);
-        if (seats.free.size() != seats.handles) detail::refuse(BLINK_SEATS_OPEN);
-        return std::vector<uint8_t>(blink_image_length(seats.pages));
     }
     [[noreturn]] static void lose(std::vector<uint8_t> image) {
 #if defined(__cpp_exceptions)

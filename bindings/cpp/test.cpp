@@ -166,19 +166,13 @@ static void threads(uint64_t times) {
 
 static uint64_t one_more(uint64_t value) { return value + 1; }
 
-// A map that gets more pages has its rows, and room for more; with a handle out it gets none.
-static void grows() {
+// A map that gets more pages has its rows, and room for more, and its handles go on.
+static void is_resized() {
     blink::Map map(16, 2);
-    {
-        auto handle = map.handle();
-        for (uint64_t key = 0; key < 80; key++) handle.insert(key, key + 1);
-        try {
-            map.resize(32);
-            CHECK(false);
-        } catch (const blink::Error &error) {
-            CHECK(error.code() == BLINK_SEATS_OPEN);
-        }
-    }
+    auto handle = map.handle();
+    for (uint64_t key = 0; key < 80; key++) handle.insert(key, key + 1);
+    auto range = handle.range();
+    auto at = range.begin();
     for (uint32_t wrong : {15u, (1u << 28) + 1}) {
         try {
             map.resize(wrong);
@@ -188,10 +182,81 @@ static void grows() {
         }
     }
     map.resize(1024);
-    CHECK(map.pages() == 1024);
-    auto handle = map.handle(), other = map.handle();
+    CHECK(map.pages() == 1024 && map.rescued().empty());
     for (uint64_t key = 80; key < 6000; key++) handle.insert(key, key + 1);
+    auto other = map.handle();
     CHECK(handle.count() == 6000 && other.find(7) == 8 && other.find(5999) == 6000);
+    // A range that was begun before goes on.
+    uint64_t rows = 0;
+    for (; at != range.end(); ++at) CHECK(at->first == rows++);
+    CHECK(rows == 6000);
+}
+
+// Inserts the thread's rows, counts a row up that all have, and looks back.
+static void enters(blink::Handle handle, uint64_t thread, uint64_t rows) {
+    for (uint64_t n = 0; n < rows; n++) {
+        const uint64_t key = n * 4 + thread + 1;
+        if (n % 3 == 0) CHECK(handle.insert(key, n).is_new);
+        else if (n % 3 == 1) CHECK(handle.put(key, n) == std::nullopt);
+        else CHECK(handle.add(key, n) == n);
+        CHECK(handle.update(0, one_more));
+        CHECK(handle.find(key - 4 * (n / 2)) == n - n / 2);
+        if (n % 1000 == 999) CHECK(handle.snapshot(key, key + 1).size() == 1);
+    }
+}
+
+// A map without a number of pages grows while four threads enter rows and a fifth lists them, and so does one that begins with an image.
+static void grows(uint64_t rows) {
+    blink::Map map(6);
+    const uint32_t first = map.pages();
+    map.handle().insert(0, 0);
+    std::atomic<bool> is_over{false};
+    std::thread lister([&is_over, handle = map.handle()]() mutable {
+        uint64_t last = 0;
+        while (!is_over) {
+            uint64_t count = 0;
+            std::optional<uint64_t> before;
+            for (auto [key, value] : handle.range()) {
+                CHECK(!before || *before < key);
+                before = key;
+                count++;
+            }
+            CHECK(count >= last);
+            last = count;
+        }
+    });
+    std::vector<std::thread> all;
+    for (uint64_t t = 0; t < 4; t++) all.emplace_back(enters, map.handle(), t, rows);
+    for (auto &thread : all) thread.join();
+    is_over = true;
+    lister.join();
+    CHECK(map.handle().count() == 4 * rows + 1 && map.handle().find(0) == 4 * rows);
+    CHECK(map.pages() >= first && (rows < 10000 || map.pages() > first));
+    const uint32_t pages = map.pages();
+    auto again = blink::Map::from_image(map.close_image(), 1);
+    CHECK(again.pages() == pages);
+    auto handle = again.handle();
+    for (uint64_t key = 4 * rows + 1; again.pages() == pages; key++) CHECK(handle.insert(key, key).is_new);
+    CHECK(handle.find(1) == 0 && handle.count() > 4 * rows);
+}
+
+// A map that grows shrinks again once most rows have gone, and one with a number of pages does not. At the edge it does not flap.
+static void shrinks() {
+    blink::Map map(2), fixed(8192, 1);
+    auto handle = map.handle(), other = map.handle(), stays = fixed.handle();
+    for (uint64_t key = 0; key < 40000; key++) CHECK(handle.put(key, key + 1) == std::nullopt && stays.put(key, key + 1) == std::nullopt);
+    const uint32_t most = map.pages();
+    CHECK(most >= 4096);
+    for (uint64_t key = 0; key < 39900; key++) CHECK(handle.erase(key) == key + 1 && stays.erase(key) == key + 1);
+    CHECK(map.pages() == 1024 && fixed.pages() == 8192);
+    CHECK(other.count() == 100 && other.first() == blink::Row(39900, 39901) && other.find(39999) == 40000);
+    // A window of rows moves on: the number of pages stays where it is once it has been found.
+    for (uint64_t key = 40000; key < 50000; key++) other.insert(key, key);
+    const uint32_t found = map.pages();
+    for (uint64_t key = 50000; key < 150000; key++) {
+        other.insert(key, key);
+        CHECK(handle.erase(key - 10000) == key - 10000 && map.pages() == found);
+    }
 }
 
 static void edges() {
@@ -274,7 +339,9 @@ int main(int count, char **words) {
     for (unsigned seed = 1; seed < 5; seed++) beside_a_map(seed, steps);
     threads(uint64_t(steps) / 2);
     edges();
-    grows();
+    is_resized();
+    grows(uint64_t(steps));
+    shrinks();
     refusals();
-    std::printf("%d steps as of a std::map, edges, growth, refusals, five threads\n", 4 * steps);
+    std::printf("%d steps as of a std::map, edges, growth beside five threads, refusals, five threads\n", 4 * steps);
 }

@@ -9,7 +9,7 @@
  * The map has unsigned keys: those from 0 to 2^63 - 1 are the same in both, and a negative k is the key of the same 64 bits, k + 2^64.
  *
  *   pages=N     so much room there is, 4 to 2^28: 6 N - 10 rows surely fit, and a full map is SQLITE_FULL. By default the map begins
- *               with 4096, or as many as the image has, and grows by two as rows come, while other statements wait.
+ *               with 4096, or as many as the image has, grows by two as rows come, and shrinks again, while other statements wait.
  *   name=NAME   one map for all tables of this name in the process, of whatever connection and thread
  *   seats=N     how many tables may share a map with a name, 1 to 64, by default 16
  *   image=FILE  the table begins with the rows of an image
@@ -291,6 +291,33 @@ static void grow_in_time(Table *t) {
     const bool wants_more = is_short(t->map, seat);
     let_go(t);
     if (wants_more) grow(t->map, pages);
+}
+
+/* Gives a map of which all seats are held half its pages, in which its rows are laid out anew. Where there is no memory it stays as it is. */
+static void shrink_held(Map *map) {
+    const size_t room = (size_t)blink_image_length(map->pages / 2);
+    uint64_t count = 0;
+    blink_row *rows = NULL;
+    uint8_t *bytes = malloc(room);
+    if (blink_count(&map->seat[0], 0, UINT64_MAX, &count) == BLINK_OK) rows = malloc(((size_t)count + 1) * sizeof *rows);
+    if (rows && bytes && blink_shrink(map->seat, map->seats, map->pages / 2, rows, (size_t)count + 1, bytes, room) == BLINK_OK)
+        map->pages /= 2;
+    free(bytes);
+    free(rows);
+}
+
+/* Behind a call that took a row away: shrinks the map where less than an eighth of its pages is used. */
+static void shrink_in_time(Table *t) {
+    blink_seat *seat = hold(t);
+    const uint32_t pages = t->map->pages;
+    bool is_sparse = false;
+    if (pages < t->map->most && pages / 2 >= DEFAULT_PAGES && __atomic_load_n(&t->map->rows, __ATOMIC_RELAXED) % 64 == 0)
+        blink_is_sparse(seat, &is_sparse);
+    let_go(t);
+    if (!is_sparse) return;
+    hold_all(t->map);
+    if (t->map->pages == pages && !t->map->kept) shrink_held(t->map);
+    let_all_go(t->map);
 }
 
 /* The table's seat is free again, and with the last table of a map that goes. */
@@ -966,6 +993,7 @@ static int take_away(sqlite3_vtab *base, uint64_t key) {
         if (answer == BLINK_OK) note(t, (Undo){ key, old, 0, true, false });
         let_go(t);
     } while (answer == BLINK_NO_ROOM && grow(t->map, pages));
+    if (answer == BLINK_OK) shrink_in_time(t);
     /* Where it is not there another connection was first. */
     return answer == BLINK_ABSENT ? SQLITE_OK : told(base, answer);
 }
@@ -984,6 +1012,7 @@ static int take_away_as_read(sqlite3_vtab *base, uint64_t key, uint64_t was) {
     }
     if (answer == BLINK_OK) note(t, (Undo){ key, was, 0, true, false });
     let_all_go(t->map);
+    if (answer == BLINK_OK) shrink_in_time(t);
     return answer == BLINK_PRESENT || answer == BLINK_ABSENT ? told_stale(base, key) : told(base, answer);
 }
 

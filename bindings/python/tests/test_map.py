@@ -428,6 +428,20 @@ class Threads(unittest.TestCase):
         self.assertGreater(m.pages, 4096)
         self.assertEqual(list(m.copy().items()), list(m.items()))
 
+    def test_shrinks(self):
+        """Once most rows have gone; a map with a number of pages keeps it."""
+        for pages, least in ((None, 4096), (16384, 16384)):
+            m = Map(pages=pages)
+            for k in range(60_000):
+                m[k] = k + 1
+            self.assertGreaterEqual(m.pages, 8192)
+            for k in range(59_900):
+                self.assertEqual(m.pop(k), k + 1)
+            self.assertEqual((m.pages, len(m), list(m.items())), (least, 100, [(k, k + 1) for k in range(59_900, 60_000)]))
+            for k in range(60_000, 80_000):
+                m[k] = k
+            self.assertEqual((len(m), m[59_999], m[79_999]), (20_100, 60_000, 79_999))
+
     def test_snapshots_add_up(self):
         """Others move amounts by two calls each; what a snapshot lists adds up to what it was, less what is on its way."""
         movers, rows, is_over = 3, 1000, threading.Event()

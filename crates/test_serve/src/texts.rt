@@ -50,83 +50,73 @@ fn both_answer<R: Threads + Wait + Sync>(
     )
 }
 
-#[test]
-fn small_inputs(rt: HostRuntime) {
-    for (input, output) in [
-        (b"".as_slice(), b"".as_slice()),
-        (b"find 1".as_slice(), b"1 malformed\n".as_slice()),
-        (b"find 5\n".as_slice(), b"1 absent\n".as_slice()),
-        (
-            b"sync\nsync\n".as_slice(),
-            b"1 synced\n2 synced\n".as_slice(),
-        ),
-        (
-            b"insert 5 50\nsync\ninsert 5 51\n".as_slice(),
-            b"1 inserted\n2 synced\n3 present 50\n".as_slice(),
-        ),
-        (
-            b"insert 5 50\nsync\nchange 5 50 60\nsync\nchange 5 50 70\nchange 6 1 2\nfind 5\n".as_slice(),
-            b"1 inserted\n2 synced\n3 changed\n4 synced\n5 differs 60\n6 absent\n7 found 60\n".as_slice(),
-        ),
-        (
-            b"insert 18446744073709551615 1\nsync\nfind 18446744073709551615\n".as_slice(),
-            b"1 inserted\n2 synced\n3 found 1\n".as_slice(),
-        ),
-        // The greatest line has 69 bytes, and one of a byte more is malformed.
-        (
-            b"insert 18446744073709551615 18446744073709551615\nsync\nchange 18446744073709551615 18446744073709551615 18446744073709551614\nsync\nchange 18446744073709551615 18446744073709551615 18446744073709551614 \n".as_slice(),
-            b"1 inserted\n2 synced\n3 changed\n4 synced\n5 malformed\n".as_slice(),
-        ),
-    ] {
-        assert_eq!(rt; both_answer(&rt, rt.alloc(), input, output), (true, true));
-    }
-}
+/// Lines, and what is written for them, by whomever.
+const LINES: [(&[u8], &[u8]); 18] = [
+    (b"", b""),
+    (b"find 1", b"1 malformed\n"),
+    (b"find 5\n", b"1 absent\n"),
+    (b"sync\nsync\n", b"1 synced\n2 synced\n"),
+    (
+        b"insert 5 50\nsync\ninsert 5 51\n",
+        b"1 inserted\n2 synced\n3 present 50\n",
+    ),
+    (
+        b"insert 5 50\nsync\nchange 5 50 60\nsync\nchange 5 50 70\nchange 6 1 2\nfind 5\n",
+        b"1 inserted\n2 synced\n3 changed\n4 synced\n5 differs 60\n6 absent\n7 found 60\n",
+    ),
+    (
+        b"insert 18446744073709551615 1\nsync\nfind 18446744073709551615\n",
+        b"1 inserted\n2 synced\n3 found 1\n",
+    ),
+    // The greatest line has 69 bytes, and one of a byte more is malformed.
+    (
+        b"insert 18446744073709551615 18446744073709551615\nsync\nchange 18446744073709551615 18446744073709551615 18446744073709551614\nsync\nchange 18446744073709551615 18446744073709551615 18446744073709551614 \n",
+        b"1 inserted\n2 synced\n3 changed\n4 synced\n5 malformed\n",
+    ),
+    // A scan lists the keys from its first number on, below its second one.
+    (b"scan 5 5\n", b"1 rows\n"),
+    (
+        b"insert 5 50\nsync\nscan 5 6\nscan 6 5\nscan 0 18446744073709551615\n",
+        b"1 inserted\n2 synced\n3 rows 5=50\n4 rows\n5 rows 5=50\n",
+    ),
+    // The same rows by falling keys, and those up to the greatest key.
+    (
+        b"scandown 5 5\nscandown 0 0\nscandown 7 0\nscandown 0 7\nscanfrom 0\n",
+        b"1 rows\n2 rows\n3 rows\n4 rows\n5 rows\n",
+    ),
+    (
+        b"insert 5 50\ninsert 6 60\nsync\nscandown 5 7\nscandown 5 6\nscandown 6 5\nscandown 0 18446744073709551615\nscanfrom 6\nscanfrom 7\n",
+        b"1 inserted\n2 inserted\n3 synced\n4 rows 6=60 5=50\n5 rows 5=50\n6 rows\n7 rows 6=60 5=50\n8 rows 6=60\n9 rows\n",
+    ),
+    // The greatest key lies below no end, no key lies above it, and none below the least.
+    (
+        b"insert 18446744073709551615 1\nsync\nscan 0 18446744073709551615\nscandown 0 18446744073709551615\nscanfrom 18446744073709551615\n",
+        b"1 inserted\n2 synced\n3 rows\n4 rows\n5 rows 18446744073709551615=1\n",
+    ),
+    (
+        b"first\nlast\nnext 0\nprevious 18446744073709551615\ncount 0 18446744073709551615\nscandownfrom 0\n",
+        b"1 rows\n2 rows\n3 rows\n4 rows\n5 count 0\n6 rows\n",
+    ),
+    (
+        b"insert 18446744073709551615 1\ninsert 0 2\nsync\nlast\nnext 18446744073709551614\nnext 18446744073709551615\nprevious 0\nprevious 18446744073709551615\nscandownfrom 18446744073709551615\ncount 0 18446744073709551615\n",
+        b"1 inserted\n2 inserted\n3 synced\n4 rows 18446744073709551615=1\n5 rows 18446744073709551615=1\n6 rows\n7 rows\n8 rows 0=2\n9 rows 18446744073709551615=1 0=2\n10 count 1\n",
+    ),
+    // A sum is of the value that the lines before it have left, modulo 2^64. What is absent stays away.
+    (
+        b"insert 1 10\nadd 1 5\nadd 1 5\nfind 1\nadd 2 7\nfind 2\n",
+        b"1 inserted\n2 replaced 10\n3 replaced 15\n4 found 20\n5 absent\n6 absent\n",
+    ),
+    (
+        b"insert 1 18446744073709551615\nadd 1 2\nfind 1\nadd 1 18446744073709551615\nfind 1\nadd 1 0\ndelete 1\nadd 1 1\n",
+        b"1 inserted\n2 replaced 18446744073709551615\n3 found 1\n4 replaced 1\n5 found 0\n6 replaced 0\n7 deleted 0\n8 absent\n",
+    ),
+    // The anchor and a leaf are in use.
+    (b"stat\n", b"1 pages 8 used 2 free 6\n"),
+];
 
-// A scan lists the keys from its first number on, below its second one.
 #[test]
-fn scans_list_rows(rt: HostRuntime) -> Result<(), Fail> {
-    for (input, output) in [
-        (b"scan 5 5\n".as_slice(), b"1 rows\n".as_slice()),
-        (
-            b"insert 5 50\nsync\nscan 5 6\nscan 6 5\nscan 0 18446744073709551615\n".as_slice(),
-            b"1 inserted\n2 synced\n3 rows 5=50\n4 rows\n5 rows 5=50\n".as_slice(),
-        ),
-        // the greatest key lies below no end
-        (
-            b"insert 18446744073709551615 1\nsync\nscan 0 18446744073709551615\n".as_slice(),
-            b"1 inserted\n2 synced\n3 rows\n".as_slice(),
-        ),
-    ] {
-        assert_eq!(rt; both_answer(&rt, rt.alloc(), input, output), (true, true));
-    }
-    // key 15 parts the leaf at 9: the scan has two parts, of which the second goes on past its end
-    let more = b"sync\nscan 7 11\nscan 1 3\nscan 15 99\n".as_slice();
-    let last =
-        b"\n16 synced\n17 rows 7=70 8=80 9=90 10=100\n18 rows 1=10 2=20\n19 rows 15=150\n".as_slice();
-    let input = inserts_before(rt.alloc(), 15, more)?;
-    let served = last_lines(&rt, rt.alloc(), 8, input.as_slice(), last, 2, 1);
-    assert!(rt; matches!(served, Some((true, Totals { malformed: 0, .. }))));
-    Ok(())
-}
-
-// The same rows by falling keys, and those up to the greatest key.
-#[test]
-fn scans_list_rows_downwards_and_to_the_end(rt: HostRuntime) {
-    for (input, output) in [
-        (
-            b"scandown 5 5\nscandown 0 0\nscandown 7 0\nscandown 0 7\nscanfrom 0\n".as_slice(),
-            b"1 rows\n2 rows\n3 rows\n4 rows\n5 rows\n".as_slice(),
-        ),
-        (
-            b"insert 5 50\ninsert 6 60\nsync\nscandown 5 7\nscandown 5 6\nscandown 6 5\nscandown 0 18446744073709551615\nscanfrom 6\nscanfrom 7\n".as_slice(),
-            b"1 inserted\n2 inserted\n3 synced\n4 rows 6=60 5=50\n5 rows 5=50\n6 rows\n7 rows 6=60 5=50\n8 rows 6=60\n9 rows\n".as_slice(),
-        ),
-        // the greatest key lies below no end
-        (
-            b"insert 18446744073709551615 1\nsync\nscandown 0 18446744073709551615\nscanfrom 18446744073709551615\n".as_slice(),
-            b"1 inserted\n2 synced\n3 rows\n4 rows 18446744073709551615=1\n".as_slice(),
-        ),
-    ] {
+fn lines_are_answered(rt: HostRuntime) {
+    for (input, output) in LINES {
         assert_eq!(rt; both_answer(&rt, rt.alloc(), input, output), (true, true));
     }
 }
@@ -172,63 +162,59 @@ fn requests_are_spelled_in_one_way(rt: HostRuntime) -> Result<(), Fail> {
     Ok(())
 }
 
-// Key 15 parts the leaf at 9: these scans have two parts, of which the second goes on past its end.
+/// Rows of the keys from 1 up to that one, lines behind them, and what is written last. Key 15 parts the leaf at 9.
+const BEHIND_ROWS: [(u64, &[u8], &[u8]); 3] = [
+    // Scans of two parts, of which the second goes on past its end.
+    (
+        15,
+        b"sync\nscan 7 11\nscan 1 3\nscan 15 99\n",
+        b"\n16 synced\n17 rows 7=70 8=80 9=90 10=100\n18 rows 1=10 2=20\n19 rows 15=150\n",
+    ),
+    (
+        15,
+        b"sync\nscandown 7 11\nscandown 1 3\nscandown 15 99\nscanfrom 8\n",
+        b"\n16 synced\n17 rows 10=100 9=90 8=80 7=70\n18 rows 2=20 1=10\n19 rows 15=150\n20 rows 8=80 9=90 10=100 11=110 12=120 13=130 14=140 15=150\n",
+    ),
+    // Rows of both leaves, and a part that goes on past the last row that is wanted.
+    (
+        15,
+        b"sync\nfirst\nlast\nnext 8\nnext 15\nprevious 9\nprevious 1\nscan 7 11 limit 3\nscandown 7 11 limit 3\nscanfrom 8 limit 2\nscandownfrom 9 limit 2\nscandownfrom 99 limit 1\nscan 7 11 limit 0\nscan 7 11 limit 4\ncount 0 99\ncount 7 11\ncount 11 7\n",
+        b"\n16 synced\n17 rows 1=10\n18 rows 15=150\n19 rows 9=90\n20 rows\n21 rows 8=80\n22 rows\n23 rows 7=70 8=80 9=90\n24 rows 10=100 9=90 8=80\n25 rows 8=80 9=90\n26 rows 9=90 8=80\n27 rows 15=150\n28 rows\n29 rows 7=70 8=80 9=90 10=100\n30 count 15\n31 count 4\n32 count 0\n",
+    ),
+];
+
 #[test]
-fn scans_list_parts_downwards_and_to_the_end(rt: HostRuntime) -> Result<(), Fail> {
-    let more = b"sync\nscandown 7 11\nscandown 1 3\nscandown 15 99\nscanfrom 8\n".as_slice();
-    let last =
-        b"\n16 synced\n17 rows 10=100 9=90 8=80 7=70\n18 rows 2=20 1=10\n19 rows 15=150\n20 rows 8=80 9=90 10=100 11=110 12=120 13=130 14=140 15=150\n".as_slice();
-    let input = inserts_before(rt.alloc(), 15, more)?;
-    let served = last_lines(&rt, rt.alloc(), 8, input.as_slice(), last, 2, 1);
-    assert!(rt; matches!(served, Some((true, Totals { malformed: 0, .. }))));
+fn lines_behind_rows_are_answered(rt: HostRuntime) -> Result<(), Fail> {
+    for (keys, more, last) in BEHIND_ROWS {
+        let input = inserts_before(rt.alloc(), keys, more)?;
+        let served = last_lines(&rt, rt.alloc(), 8, input.as_slice(), last, 2, 1);
+        assert!(rt; matches!(served, Some((true, Totals { malformed: 0, .. }))));
+    }
     Ok(())
 }
 
-// Key 15 parts the leaf at 9: rows of both leaves, and a part that goes on past the last row that is wanted.
+/// The same of one worker, in an index of so many pages. Behind key 15 a page stands above both leaves: of four pages none is left then. Keys
+/// 16 to 22 fill page 2, and then there is no page to part it.
+const IN_SMALL_INDEXES: [(u32, u64, &[u8], &[u8]); 4] = [
+    (8, 14, b"stat\n", b"15 pages 8 used 2 free 6\n"),
+    (8, 15, b"stat\n", b"16 pages 8 used 4 free 4\n"),
+    (4, 15, b"stat\n", b"16 pages 4 used 4 free 0\n"),
+    (
+        4,
+        23,
+        b"find 23\nfind 22\n",
+        b"21 inserted\n22 inserted\n23 noroom\n24 absent\n25 found 220\n",
+    ),
+];
+
 #[test]
-fn some_rows_are_listed_and_counted(rt: HostRuntime) -> Result<(), Fail> {
-    let more =
-        b"sync\nfirst\nlast\nnext 8\nnext 15\nprevious 9\nprevious 1\nscan 7 11 limit 3\nscandown 7 11 limit 3\nscanfrom 8 limit 2\nscandownfrom 9 limit 2\nscandownfrom 99 limit 1\nscan 7 11 limit 0\nscan 7 11 limit 4\ncount 0 99\ncount 7 11\ncount 11 7\n".as_slice();
-    let last =
-        b"\n16 synced\n17 rows 1=10\n18 rows 15=150\n19 rows 9=90\n20 rows\n21 rows 8=80\n22 rows\n23 rows 7=70 8=80 9=90\n24 rows 10=100 9=90 8=80\n25 rows 8=80 9=90\n26 rows 9=90 8=80\n27 rows 15=150\n28 rows\n29 rows 7=70 8=80 9=90 10=100\n30 count 15\n31 count 4\n32 count 0\n".as_slice();
-    let input = inserts_before(rt.alloc(), 15, more)?;
-    let served = last_lines(&rt, rt.alloc(), 8, input.as_slice(), last, 2, 1);
-    assert!(rt; matches!(served, Some((true, Totals { malformed: 0, .. }))));
+fn small_indexes_are_soon_full(rt: HostRuntime) -> Result<(), Fail> {
+    for (pages, keys, more, last) in IN_SMALL_INDEXES {
+        let input = inserts_before(rt.alloc(), keys, more)?;
+        let served = last_lines(&rt, rt.alloc(), pages, input.as_slice(), last, 1, 0);
+        assert!(rt; matches!(served, Some((true, Totals { malformed: 0, .. }))));
+    }
     Ok(())
-}
-
-// No key lies above the greatest one, and none below the least.
-#[test]
-fn the_greatest_key_is_listed(rt: HostRuntime) {
-    for (input, output) in [
-        (
-            b"first\nlast\nnext 0\nprevious 18446744073709551615\ncount 0 18446744073709551615\nscandownfrom 0\n".as_slice(),
-            b"1 rows\n2 rows\n3 rows\n4 rows\n5 count 0\n6 rows\n".as_slice(),
-        ),
-        (
-            b"insert 18446744073709551615 1\ninsert 0 2\nsync\nlast\nnext 18446744073709551614\nnext 18446744073709551615\nprevious 0\nprevious 18446744073709551615\nscandownfrom 18446744073709551615\ncount 0 18446744073709551615\n".as_slice(),
-            b"1 inserted\n2 inserted\n3 synced\n4 rows 18446744073709551615=1\n5 rows 18446744073709551615=1\n6 rows\n7 rows\n8 rows 0=2\n9 rows 18446744073709551615=1 0=2\n10 count 1\n".as_slice(),
-        ),
-    ] {
-        assert_eq!(rt; both_answer(&rt, rt.alloc(), input, output), (true, true));
-    }
-}
-
-// A sum is of the value that the lines before it have left, modulo 2^64. What is absent stays away.
-#[test]
-fn sums_are_added_up(rt: HostRuntime) {
-    for (input, output) in [
-        (
-            b"insert 1 10\nadd 1 5\nadd 1 5\nfind 1\nadd 2 7\nfind 2\n".as_slice(),
-            b"1 inserted\n2 replaced 10\n3 replaced 15\n4 found 20\n5 absent\n6 absent\n".as_slice(),
-        ),
-        (
-            b"insert 1 18446744073709551615\nadd 1 2\nfind 1\nadd 1 18446744073709551615\nfind 1\nadd 1 0\ndelete 1\nadd 1 1\n".as_slice(),
-            b"1 inserted\n2 replaced 18446744073709551615\n3 found 1\n4 replaced 1\n5 found 0\n6 replaced 0\n7 deleted 0\n8 absent\n".as_slice(),
-        ),
-    ] {
-        assert_eq!(rt; both_answer(&rt, rt.alloc(), input, output), (true, true));
-    }
 }
 
 // The anchor and a leaf are in use. A line that asks for room is a request, and ends no section.
@@ -246,23 +232,6 @@ fn room_is_told_between_requests(rt: HostRuntime) {
         answer(&rt, rt.alloc(), input, output),
         Some((true, totals))
     );
-    let alone = both_answer(&rt, rt.alloc(), b"stat\n", b"1 pages 8 used 2 free 6\n");
-    assert_eq!(rt; alone, (true, true));
-}
-
-// Key 15 parts the leaf, and a page stands above both: of four pages none is left then.
-#[test]
-fn room_is_told_behind_a_split(rt: HostRuntime) -> Result<(), Fail> {
-    for (pages, keys, last) in [
-        (8, 14, b"15 pages 8 used 2 free 6\n".as_slice()),
-        (8, 15, b"16 pages 8 used 4 free 4\n".as_slice()),
-        (4, 15, b"16 pages 4 used 4 free 0\n".as_slice()),
-    ] {
-        let input = inserts_before(rt.alloc(), keys, b"stat\n")?;
-        let served = last_lines(&rt, rt.alloc(), pages, input.as_slice(), last, 1, 0);
-        assert!(rt; matches!(served, Some((true, Totals { malformed: 0, .. }))));
-    }
-    Ok(())
 }
 
 // By however many workers the lines of one key are carried out one after another.
@@ -293,16 +262,6 @@ fn sections_stand_in_order(rt: HostRuntime) {
             1
         )
     );
-}
-
-// Of four pages the last is taken by the first post. Keys 16 to 22 fill page 2, and then there is no page to part it.
-#[test]
-fn four_pages_are_soon_full(rt: HostRuntime) -> Result<(), Fail> {
-    let input = inserts_before(rt.alloc(), 23, b"find 23\nfind 22\n")?;
-    let last = b"21 inserted\n22 inserted\n23 noroom\n24 absent\n25 found 220\n".as_slice();
-    let served = last_lines(&rt, rt.alloc(), 4, input.as_slice(), last, 1, 0);
-    assert!(rt; matches!(served, Some((true, _))));
-    Ok(())
 }
 
 /// How many lines of the text end with these bytes.

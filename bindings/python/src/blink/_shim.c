@@ -12,13 +12,16 @@
 /* What a closed map has in place of the number of its rows. */
 #define SHIM_CLOSED INT64_MIN
 
+/* To so many pages a map shrinks, unless it began with fewer. */
+#define SHIM_LEAST 4096
+
 typedef struct shim_map {
     blink_seat *seats;
     uint64_t free;    /* a bit for each seat that is in no call */
     uint32_t waiting; /* how many threads wait for a seat */
     uint32_t takers;  /* how many of them wait for all seats: no other call takes one before them */
     uint32_t pages, count;
-    uint32_t most;    /* to so many pages it may grow */
+    uint32_t least, most; /* to so many pages it may shrink and grow */
     int64_t rows; /* how many rows there are: the library would go along them; SHIM_CLOSED where the map is closed */
     uint8_t *kept;    /* the image of a map that could not be opened again as it grew, or null */
     uint64_t kept_length;
@@ -140,6 +143,31 @@ static bool shim_grow(shim_map *map, uint32_t pages) {
     return shim_pages(map) > pages;
 }
 
+/* Gives the map half its pages, in which its rows are laid out anew. Where there is no memory for that it stays as it is. */
+static void shim_lay_out(shim_map *map) {
+    const size_t most = (size_t)map->rows + 1, room = (size_t)blink_image_length(map->pages / 2);
+    blink_row *rows = malloc(most * sizeof *rows);
+    uint8_t *bytes = malloc(room);
+    if (rows && bytes && blink_shrink(map->seats, map->count, map->pages / 2, rows, most, bytes, room) == BLINK_OK)
+        __atomic_store_n(&map->pages, map->pages / 2, __ATOMIC_SEQ_CST);
+    free(bytes);
+    free(rows);
+}
+
+/* Behind a call that has taken a row away, and left so many: where less than an eighth of the pages of a map that grows is used, it shrinks. */
+static void shim_shrink(shim_map *map, int64_t rows) {
+    const uint32_t pages = shim_pages(map);
+    bool is_sparse = false;
+    if (rows % 64 != 0 || pages / 2 < map->least || pages >= map->most) return;
+    {
+        SHIM_CALL(map, answer = blink_is_sparse(seat, &is_sparse))
+        if (answer != BLINK_OK || !is_sparse) return;
+    }
+    shim_take_all(map);
+    if (map->rows != SHIM_CLOSED && map->pages == pages) shim_lay_out(map);
+    shim_give(map, shim_all(map));
+}
+
 /* Behind a call that began when the map had so many pages, and has entered so many rows: where it is short of pages it grows. Whether the
  * call found no room, and is to be made again. */
 static bool shim_again(shim_map *map, uint32_t pages, int32_t answer, int64_t fresh) {
@@ -182,6 +210,7 @@ static int32_t shim_open(uint32_t pages, uint32_t most, uint32_t count, const ui
     blink_stat(&map->seats[0], false, &stats);
     map->pages = (uint32_t)stats.pages;
     map->most = most > map->pages ? most : map->pages;
+    map->least = most > map->pages && map->pages > SHIM_LEAST ? SHIM_LEAST : map->pages;
     map->count = count;
     map->free = shim_all(map);
     pthread_mutex_init(&map->lock, NULL);
@@ -264,7 +293,7 @@ static int32_t shim_put(shim_map *map, uint64_t key, uint64_t value, uint64_t *o
 
 static int32_t shim_delete(shim_map *map, uint64_t key, uint64_t *gone) {
     SHIM_WRITE(map, answer = blink_delete(seat, key, gone), false)
-    if (answer_ == BLINK_OK) shim_count(map, -1);
+    if (answer_ == BLINK_OK) shim_shrink(map, shim_count(map, -1));
     return answer_;
 }
 

@@ -122,6 +122,16 @@ extern "C" {
         length: *mut u64,
     ) -> i32;
     pub fn blink_is_short(seat: *mut blink_seat, is_short: *mut bool) -> i32;
+    pub fn blink_is_sparse(seat: *mut blink_seat, is_sparse: *mut bool) -> i32;
+    pub fn blink_shrink(
+        seats: *mut blink_seat,
+        count: usize,
+        pages: u32,
+        rows: *mut blink_row,
+        most: usize,
+        bytes: *mut u8,
+        room: usize,
+    ) -> i32;
     pub fn blink_resize(
         seats: *mut blink_seat,
         count: usize,

@@ -5,7 +5,7 @@ fn main() -> Result<(), Box<dyn std::error::Error>> {
     let mut text = String::new();
     io::stdin().read_to_string(&mut text)?;
     let words: Vec<&str> = text.split_whitespace().collect();
-    let map = blink::Map::new(1024, 4)?;
+    let map = blink::Map::growing(4)?;
     std::thread::scope(|scope| {
         let threads: Vec<_> = words
             .chunks(words.len() / 4 + 1)

@@ -2,16 +2,24 @@
 //!
 //! One map after the other is opened, for so many seconds, and one at least. In each of the three rounds of a map so many threads
 //! make so many calls each, through handles, on few keys: searches, insertions, puts, deletions, changes, updates, which are told as
-//! changes, and ranges of some keys, up and down, which tell of each key that they pass. Behind a round the map is closed to its image and opened from that. The next map
-//! has other keys. A line is printed for each call: the thread, the nanoseconds right before the call and right behind it, the key,
+//! changes, and ranges of some keys, up and down, which tell of each key that they pass. Meanwhile the map gets some more pages each few
+//! milliseconds. Behind a round it is closed to its image and opened from that. The next map has other keys. A line is printed for each call: the thread, the nanoseconds right before the call and right behind it, the key,
 //! what was asked and what was answered; and behind each round the line `round`.
 use blink::{ExchangeError, Handle, Map, NoRoom};
 use std::io::{self, BufWriter, Write};
+use std::sync::atomic::{AtomicBool, AtomicU64, Ordering};
 use std::time::{Duration, Instant};
 
 const ROUNDS: usize = 3;
 /// How many keys a range spans at most.
 const SPAN: u64 = 24;
+
+/// So many pages the map gets more at a time, and after so many milliseconds.
+const MORE_PAGES: u32 = 16;
+const PAUSE: Duration = Duration::from_millis(3);
+
+/// How often a map was given more pages.
+static RESIZES: AtomicU64 = AtomicU64::new(0);
 
 /// A line without its thread.
 type Line = (u64, u64, u64, String);
@@ -135,6 +143,15 @@ impl Worker {
     }
 }
 
+/// Gives the map more pages, now and then, until the others have ended.
+fn resize(map: &Map, is_over: &AtomicBool) {
+    while !is_over.load(Ordering::SeqCst) {
+        std::thread::sleep(PAUSE);
+        map.resize(map.pages() + MORE_PAGES).expect("memory for more pages");
+        RESIZES.fetch_add(1, Ordering::SeqCst);
+    }
+}
+
 fn round(
     map: &Map,
     workers: &mut [Worker],
@@ -142,7 +159,9 @@ fn round(
     calls: usize,
     start: Instant,
 ) -> Vec<Vec<Line>> {
+    let is_over = AtomicBool::new(false);
     std::thread::scope(|scope| {
+        scope.spawn(|| resize(map, &is_over));
         let threads: Vec<_> = workers
             .iter_mut()
             .map(|worker| {
@@ -151,7 +170,9 @@ fn round(
                 scope.spawn(move || worker.work(&handle, keys, calls, start))
             })
             .collect();
-        threads.into_iter().map(|thread| thread.join().expect("no thread panics")).collect()
+        let joined: Vec<_> = threads.into_iter().map(|thread| thread.join()).collect();
+        is_over.store(true, Ordering::SeqCst);
+        joined.into_iter().map(|lines| lines.expect("no thread panics")).collect()
     })
 }
 
@@ -187,6 +208,6 @@ fn main() -> Result<(), Box<dyn std::error::Error>> {
         maps += 1;
     }
     out.flush()?;
-    eprintln!("{} maps", maps);
+    eprintln!("{} maps, {} resizes", maps, RESIZES.load(Ordering::SeqCst));
     Ok(())
 }

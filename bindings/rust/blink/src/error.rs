@@ -85,8 +85,8 @@ impl Error for NoRoomAfter {}
 #[derive(Clone, Debug, PartialEq, Eq)]
 #[non_exhaustive]
 pub enum ResizeError {
-    /// Some handles are out, or the map is closed.
-    HandlesOut,
+    /// The map is closed.
+    Closed,
     /// The number of pages is less than the map has, or more than 2^28.
     Pages,
     /// There is no memory.
@@ -98,7 +98,7 @@ pub enum ResizeError {
 impl fmt::Display for ResizeError {
     fn fmt(&self, f: &mut fmt::Formatter<'_>) -> fmt::Result {
         f.write_str(match self {
-            ResizeError::HandlesOut => "some handles of the map are out, or it is closed",
+            ResizeError::Closed => "the map is closed",
             ResizeError::Pages => "the number of pages is less than the map has, or more than 2^28",
             ResizeError::Memory => "there is no memory",
             ResizeError::Lost(_) => "there was no memory to open the map again",

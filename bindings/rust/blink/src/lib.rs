@@ -2,7 +2,7 @@
 //! proved.
 //!
 //! ```
-//! let map = blink::Map::new(1024, 4)?; // 1,024 pages, and 4 handles at once
+//! let map = blink::Map::growing(4)?; // 4 handles at once
 //! std::thread::scope(|scope| {
 //!     for thread in 0..4 {
 //!         let handle = map.handle().unwrap();
@@ -15,7 +15,10 @@
 //! # Ok::<(), blink::OpenError>(())
 //! ```
 //!
-//! What the header asks of a caller is kept by types: a [`Handle`] owns its seat, may go to another thread, and is not shared by
+//! A map grows by two as rows come, and shrinks by two where less than an eighth of its pages is used, while the calls of other
+//! handles wait: a call takes long then, once for each doubling. One that is made with a number of pages keeps it.
+//!
+//! What the header asks of a caller is kept by types: a [`Handle`] owns its place, may go to another thread, and is not shared by
 //! two (`Send`, not `Sync`), and no call of it calls back. So its calls take `&self`, and a range may be listed while the same
 //! handle changes rows.
 //!
@@ -28,85 +31,43 @@
 mod error;
 mod files;
 mod range;
-mod update;
+mod seats;
 
 pub use blink_sys::blink_stats as Stats;
 pub use error::{CloseError, ExchangeError, NoRoom, NoRoomAfter, OpenError, ResizeError, SnapshotError};
 pub use range::Range;
 
 use blink_sys::*;
-use std::cell::UnsafeCell;
+use seats::{Seats, FIRST_PAGES, MOST_PAGES};
+use std::cell::Cell;
 use std::ffi::CStr;
 use std::fmt;
 use std::io;
 use std::ops::{Bound, RangeBounds};
 use std::path::Path;
-use std::sync::atomic::{AtomicU32, Ordering};
-use std::sync::{Arc, Mutex, MutexGuard, PoisonError};
+use std::sync::Arc;
 
 /// The most rows of one leaf.
 const LEAF_ROWS: usize = 14;
 /// So many times a snapshot reads leaves again that others have changed.
 const ROUNDS: u32 = 64;
+/// No code of the library: of a call that enters no row.
+const NOTHING: i32 = -1;
 
-/// A seat that is closed when it is dropped.
-#[repr(transparent)]
-struct Seat(blink_seat);
-
-// SAFETY: a seat may go from one thread to another where what they do is ordered as by a lock, as it is wherever safe Rust moves a
-// value between threads.
-unsafe impl Send for Seat {}
-
-impl Drop for Seat {
-    fn drop(&mut self) {
-        // SAFETY: this is the only copy of the seat; one that is closed may be closed again.
-        unsafe { blink_close(&mut self.0) };
-    }
-}
-
-struct Shared {
-    free: Mutex<Vec<Seat>>,
-    pages: AtomicU32,
-    handles: usize,
-}
-
-impl Shared {
-    fn free(&self) -> MutexGuard<'_, Vec<Seat>> {
-        self.free.lock().unwrap_or_else(PoisonError::into_inner)
-    }
-
-    fn pages(&self) -> u32 {
-        self.pages.load(Ordering::SeqCst)
-    }
-}
 
 /// A map. Clones of it share its rows, and so do its handles, which may outlive it.
 #[derive(Clone)]
 pub struct Map {
-    shared: Arc<Shared>,
+    seats: Arc<Seats>,
 }
 
 /// One thread's place at a map. It goes back to the map when it is dropped.
 pub struct Handle {
-    /// `None` only while it is dropped. The cell makes a handle one that is not `Sync`.
-    seat: UnsafeCell<Option<Seat>>,
-    shared: Arc<Shared>,
-}
-
-fn closed_seats(count: usize) -> Vec<blink_seat> {
-    (0..count).map(|_| blink_seat { at: std::ptr::null_mut() }).collect()
-}
-
-fn opened(code: i32, mut seats: Vec<blink_seat>) -> Result<Map, OpenError> {
-    if code != BLINK_OK {
-        return Err(OpenError::of(code));
-    }
-    let (handles, mut stats) = (seats.len(), blink_stats::default());
-    // SAFETY: the pointers are of an open seat and of a local variable.
-    unsafe { blink_stat(&mut seats[0], false, &mut stats) };
-    let pages = stats.pages as u32;
-    let free = Mutex::new(seats.into_iter().rev().map(Seat).collect());
-    Ok(Map { shared: Arc::new(Shared { free, pages: AtomicU32::new(pages), handles }) })
+    place: usize,
+    /// How many rows it has entered and taken away. The cells make a handle one that is not `Sync`.
+    entered: Cell<u64>,
+    taken: Cell<u64>,
+    seats: Arc<Seats>,
 }
 
 /// The version of the library that is linked, as "0.1.0".
@@ -116,34 +77,42 @@ pub fn library_version() -> &'static str {
 }
 
 impl Map {
-    /// A map without rows, of 4 to 2^28 pages (plan one for each six rows), with 1 to 64 handles.
+    /// A map without rows, with 1 to 64 handles, that grows by two as rows come.
+    ///
+    /// # Errors
+    ///
+    /// Where the handles are not 1 to 64, or there is no memory.
+    pub fn growing(handles: usize) -> Result<Map, OpenError> {
+        Map::of(handles, true, |seats, count| unsafe { blink_open(FIRST_PAGES, seats, count) })
+    }
+
+    /// One of 4 to 2^28 pages (plan one for each six rows), which only [`Map::resize`] changes.
     ///
     /// # Errors
     ///
     /// Where a number is out of range, or there is no memory.
     pub fn new(pages: u32, handles: usize) -> Result<Map, OpenError> {
-        if !(1..=64).contains(&handles) {
-            return Err(OpenError::Handles);
-        }
-        let mut seats = closed_seats(handles);
-        // SAFETY: the pointer and the length are of one vector of closed seats.
-        let code = unsafe { blink_open(pages, seats.as_mut_ptr(), seats.len()) };
-        opened(code, seats)
+        Map::of(handles, false, |seats, count| unsafe { blink_open(pages, seats, count) })
     }
 
-    /// A map that begins with the rows of an image, as [`Map::close_image`] and `blink dump` make it.
+    /// A map that begins with the rows and the pages of an image, as [`Map::close_image`] and `blink dump` make it, and grows.
     ///
     /// # Errors
     ///
     /// Where the bytes are no sound image, the handles not 1 to 64, or there is no memory.
     pub fn from_image(image: &[u8], handles: usize) -> Result<Map, OpenError> {
+        Map::of(handles, true, |seats, count| unsafe {
+            blink_open_image(image.as_ptr(), image.len(), seats, count)
+        })
+    }
+
+    /// A map of so many handles, which the call opens: it gets an array of closed seats.
+    fn of(handles: usize, grows: bool, open: impl FnOnce(*mut blink_seat, usize) -> i32) -> Result<Map, OpenError> {
         if !(1..=64).contains(&handles) {
             return Err(OpenError::Handles);
         }
-        let mut seats = closed_seats(handles);
-        // SAFETY: as above, and the image is a slice.
-        let code = unsafe { blink_open_image(image.as_ptr(), image.len(), seats.as_mut_ptr(), seats.len()) };
-        opened(code, seats)
+        let seats = Seats::open(handles, grows, open).map_err(OpenError::of)?;
+        Ok(Map { seats: Arc::new(seats) })
     }
 
     /// A map that begins with the rows of the image in a file, as [`Map::save`] and `blink dump` make it.
@@ -162,53 +131,42 @@ impl Map {
     ///
     /// Where no handle is free, there is no memory, or the file cannot be written, which then is as it was.
     pub fn save(&self, path: impl AsRef<Path>) -> io::Result<()> {
-        let handle = self.handle().ok_or_else(|| io::Error::other("no handle of the map is free"))?;
+        let handle = self.handle().ok_or_else(|| io::Error::new(io::ErrorKind::Other, "no handle of the map is free"))?;
         files::replace(path.as_ref(), &handle.image()?)
     }
 
     /// A handle, if one is free.
     pub fn handle(&self) -> Option<Handle> {
-        let seat = self.shared.free().pop()?;
-        Some(Handle { seat: UnsafeCell::new(Some(seat)), shared: self.shared.clone() })
+        let place = self.seats.lock().free.pop()?;
+        Some(Handle { place, entered: Cell::new(0), taken: Cell::new(0), seats: self.seats.clone() })
     }
 
     /// How many pages the map has.
     pub fn pages(&self) -> u32 {
-        self.shared.pages()
+        self.seats.pages()
     }
 
-    /// Gives the map so many pages, as many as it has or more, if all handles are back.
+    /// Gives the map so many pages, as many as it has or more, while the calls of all handles wait.
     ///
     /// # Errors
     ///
-    /// Where a handle is out, the number is not within these limits, or there is no memory; the map is as it was then, but for
+    /// Where the number is not within these limits, there is no memory, or the map is closed; the map is as it was then, but for
     /// [`ResizeError::Lost`], which has its image.
     pub fn resize(&self, pages: u32) -> Result<(), ResizeError> {
-        let mut free = self.shared.free();
-        if free.len() != self.shared.handles {
-            return Err(ResizeError::HandlesOut);
+        let mut held = self.seats.lock();
+        match self.seats.resize(&mut held, pages) {
+            BLINK_OK => Ok(()),
+            BLINK_SEATS_LOST => Err(ResizeError::Lost(held.rescued.clone())),
+            BLINK_BAD_PAGES => Err(ResizeError::Pages),
+            BLINK_CLOSED => Err(ResizeError::Closed),
+            _ => Err(ResizeError::Memory),
         }
-        let mut seats: Vec<blink_seat> = free.iter().map(|seat| blink_seat { at: seat.0.at }).collect();
-        // SAFETY: the function takes any number.
-        let mut bytes = vec![0; unsafe { blink_image_length(self.shared.pages()) } as usize];
-        let mut length = 0;
-        // SAFETY: as for `close_image`.
-        let code =
-            unsafe { blink_resize(seats.as_mut_ptr(), seats.len(), pages, bytes.as_mut_ptr(), bytes.len(), &mut length) };
-        for (seat, left) in free.iter_mut().zip(seats) {
-            seat.0 = left;
-        }
-        match code {
-            BLINK_OK => self.shared.pages.store(pages, Ordering::SeqCst),
-            BLINK_SEATS_LOST => {
-                free.clear();
-                bytes.truncate(length as usize);
-                return Err(ResizeError::Lost(bytes));
-            }
-            BLINK_BAD_PAGES => return Err(ResizeError::Pages),
-            _ => return Err(ResizeError::Memory),
-        }
-        Ok(())
+    }
+
+    /// The image of a map that was lost as it grew: there was no memory to open it again, and each call of it panics. Of any other
+    /// map nothing.
+    pub fn rescued(&self) -> Vec<u8> {
+        self.seats.lock().rescued.clone()
     }
 
     /// Closes the map, if all handles are back: its image. Clones of the map have no handle any more then.
@@ -217,28 +175,24 @@ impl Map {
     ///
     /// Where a handle is out, the map was closed by a clone, or there is no memory; the error has the map, as it was.
     pub fn close_image(self) -> Result<Vec<u8>, CloseError> {
-        let mut free = self.shared.free();
-        if free.len() != self.shared.handles {
-            drop(free);
+        let mut held = self.seats.lock();
+        if held.is_closed || held.free.len() != self.seats.count() {
+            drop(held);
             return Err(CloseError::HandlesOut(self));
         }
-        let mut seats: Vec<blink_seat> = free.iter().map(|seat| blink_seat { at: seat.0.at }).collect();
         // SAFETY: the function takes any number.
-        let mut bytes = vec![0; unsafe { blink_image_length(self.shared.pages()) } as usize];
+        let mut bytes = vec![0; unsafe { blink_image_length(self.seats.pages()) } as usize];
         let mut length = 0;
-        // SAFETY: the seats are all those of one map, the lock keeps others from them, and each pointer is of a vector or a
-        // variable that is there, with the length of the vector beside it.
-        let code =
-            unsafe { blink_close_image(seats.as_mut_ptr(), seats.len(), bytes.as_mut_ptr(), bytes.len(), &mut length) };
-        // What the call has left of the seats is theirs: closed, or as it was.
-        for (seat, left) in free.iter_mut().zip(seats) {
-            seat.0 = left;
-        }
+        // SAFETY: the seats are all those of one map, no handle has any of them, and each pointer is of a vector or a variable that
+        // is there, with the length of the vector beside it.
+        let code = self.seats.with_seats(|seats, count| unsafe {
+            blink_close_image(seats, count, bytes.as_mut_ptr(), bytes.len(), &mut length)
+        });
         if code != BLINK_OK {
-            drop(free);
+            drop(held);
             return Err(CloseError::Refused(self, error::text(code)));
         }
-        free.clear();
+        held.close();
         bytes.truncate(length as usize);
         Ok(bytes)
     }
@@ -247,8 +201,8 @@ impl Map {
 impl fmt::Debug for Map {
     fn fmt(&self, f: &mut fmt::Formatter<'_>) -> fmt::Result {
         f.debug_struct("Map")
-            .field("pages", &self.shared.pages())
-            .field("handles", &self.shared.handles)
+            .field("pages", &self.seats.pages())
+            .field("handles", &self.seats.count())
             .finish_non_exhaustive()
     }
 }
@@ -269,19 +223,54 @@ fn bounds_of(range: impl RangeBounds<u64>) -> Option<(u64, u64)> {
 }
 
 impl Handle {
-    fn at(&self) -> *mut blink_seat {
-        // SAFETY: a handle is in one thread at a time and no call calls back, so nobody else has a reference into the cell.
-        match unsafe { &mut *self.seat.get() } {
-            Some(seat) => &mut seat.0,
-            None => unreachable!("a handle has a seat until it is dropped"),
+    /// Makes a call of the library by the handle's seat. It is not to panic, nor to make another call of a handle.
+    fn call<T>(&self, call: impl FnOnce(*mut blink_seat) -> T) -> T {
+        self.seats.call(self.place, call)
+    }
+
+    /// The same of a write, of which that code says that it has entered a row. Behind each 64th row the map grows where it is short
+    /// of pages; where the write found no room, it is made again once the map has grown.
+    fn enter(&self, is_new: i32, mut write: impl FnMut(*mut blink_seat) -> i32) -> i32 {
+        loop {
+            let pages = self.seats.pages();
+            let code = self.call(&mut write);
+            if code == is_new {
+                self.entered.set(self.entered.get() + 1);
+                if self.entered.get() % 64 == 0 && self.is_short(pages) {
+                    self.seats.grow(pages);
+                }
+            }
+            if code != BLINK_NO_ROOM || !self.seats.grow(pages) {
+                return code;
+            }
         }
+    }
+
+    /// Behind each 64th row that is taken away the map shrinks, if less than an eighth of its pages is used.
+    fn note_taken(&self) {
+        self.taken.set(self.taken.get() + 1);
+        let pages = self.seats.pages();
+        if self.taken.get() % 64 != 0 || !self.seats.grows() || pages < 2 * FIRST_PAGES {
+            return;
+        }
+        let mut is_sparse = false;
+        let code = self.call(|seat| unsafe { blink_is_sparse(seat, &mut is_sparse) });
+        if code == BLINK_OK && is_sparse {
+            self.seats.shrink(pages);
+        }
+    }
+
+    /// Whether a map of so many pages is to grow.
+    fn is_short(&self, pages: u32) -> bool {
+        let mut is_short = false;
+        // SAFETY: here and below, the seat is this handle's alone, and each other pointer is of a local variable.
+        self.seats.grows() && pages < MOST_PAGES && self.call(|seat| unsafe { blink_is_short(seat, &mut is_short) }) == BLINK_OK && is_short
     }
 
     /// The key's value.
     pub fn get(&self, key: u64) -> Option<u64> {
         let mut value = 0;
-        // SAFETY: here and below, the seat is this handle's alone, and each other pointer is of a local variable.
-        match unsafe { blink_find(self.at(), key, &mut value) } {
+        match self.call(|seat| unsafe { blink_find(seat, key, &mut value) }) {
             BLINK_OK => Some(value),
             BLINK_ABSENT => None,
             code => error::unexpected(code),
@@ -298,8 +287,9 @@ impl Handle {
     pub fn get_many(&self, keys: &[u64]) -> Vec<Option<u64>> {
         let (mut values, mut found) = (vec![0; keys.len()], vec![false; keys.len()]);
         // SAFETY: the seat is this handle's alone, and each other pointer is of a vector with a place for each key.
-        let code =
-            unsafe { blink_find_many(self.at(), keys.as_ptr(), keys.len(), values.as_mut_ptr(), found.as_mut_ptr()) };
+        let code = self.call(|seat| unsafe {
+            blink_find_many(seat, keys.as_ptr(), keys.len(), values.as_mut_ptr(), found.as_mut_ptr())
+        });
         if code != BLINK_OK {
             error::unexpected(code);
         }
@@ -313,7 +303,7 @@ impl Handle {
     /// Where no page or frame was free; nothing has changed then, here and below.
     pub fn insert(&self, key: u64, value: u64) -> Result<Option<u64>, NoRoom> {
         let mut there = 0;
-        match unsafe { blink_insert(self.at(), key, value, &mut there) } {
+        match self.enter(BLINK_OK, |seat| unsafe { blink_insert(seat, key, value, &mut there) }) {
             BLINK_OK => Ok(None),
             BLINK_PRESENT => Ok(Some(there)),
             BLINK_NO_ROOM => Err(NoRoom),
@@ -328,7 +318,7 @@ impl Handle {
     /// Where no page or frame was free.
     pub fn put(&self, key: u64, value: u64) -> Result<Option<u64>, NoRoom> {
         let mut old = 0;
-        match unsafe { blink_put(self.at(), key, value, &mut old) } {
+        match self.enter(BLINK_OK, |seat| unsafe { blink_put(seat, key, value, &mut old) }) {
             BLINK_OK => Ok(None),
             BLINK_PRESENT => Ok(Some(old)),
             BLINK_NO_ROOM => Err(NoRoom),
@@ -368,8 +358,11 @@ impl Handle {
     /// Where no frame was free.
     pub fn remove(&self, key: u64) -> Result<Option<u64>, NoRoom> {
         let mut gone = 0;
-        match unsafe { blink_delete(self.at(), key, &mut gone) } {
-            BLINK_OK => Ok(Some(gone)),
+        match self.enter(NOTHING, |seat| unsafe { blink_delete(seat, key, &mut gone) }) {
+            BLINK_OK => {
+                self.note_taken();
+                Ok(Some(gone))
+            }
             BLINK_ABSENT => Ok(None),
             BLINK_NO_ROOM => Err(NoRoom),
             code => error::unexpected(code),
@@ -383,7 +376,7 @@ impl Handle {
     /// Where the key has another value, is not there, or no frame was free.
     pub fn compare_exchange(&self, key: u64, old: u64, new: u64) -> Result<(), ExchangeError> {
         let mut there = 0;
-        match unsafe { blink_change(self.at(), key, old, new, &mut there) } {
+        match self.enter(NOTHING, |seat| unsafe { blink_change(seat, key, old, new, &mut there) }) {
             BLINK_OK => Ok(()),
             BLINK_ABSENT => Err(ExchangeError::Absent),
             BLINK_PRESENT => Err(ExchangeError::Differs(there)),
@@ -398,8 +391,17 @@ impl Handle {
     /// # Errors
     ///
     /// Where no frame was free.
-    pub fn update(&self, key: u64, make: impl FnMut(u64) -> u64) -> Result<Option<u64>, NoRoom> {
-        update::update(self, key, make)
+    pub fn update(&self, key: u64, mut make: impl FnMut(u64) -> u64) -> Result<Option<u64>, NoRoom> {
+        let mut found = self.get(key);
+        while let Some(old) = found {
+            match self.compare_exchange(key, old, make(old)) {
+                Ok(()) => return Ok(found),
+                Err(ExchangeError::Differs(there)) => found = Some(there),
+                Err(ExchangeError::Absent) => return Ok(None),
+                Err(ExchangeError::NoRoom) => return Err(NoRoom),
+            }
+        }
+        Ok(None)
     }
 
     /// Adds to the key's value, modulo 2^64: the sum. A key that is not there counts as 0, and is inserted.
@@ -409,7 +411,7 @@ impl Handle {
     /// Where no page or frame was free.
     pub fn add(&self, key: u64, delta: u64) -> Result<u64, NoRoom> {
         let mut now = 0;
-        match unsafe { blink_add(self.at(), key, delta, &mut now) } {
+        match self.enter(BLINK_OK, |seat| unsafe { blink_add(seat, key, delta, &mut now) }) {
             BLINK_OK | BLINK_PRESENT => Ok(now),
             BLINK_NO_ROOM => Err(NoRoom),
             code => error::unexpected(code),
@@ -429,15 +431,17 @@ impl Handle {
     ///
     /// Where others changed them each time that they were read, 65 times; or there is no memory.
     pub fn snapshot(&self, range: impl RangeBounds<u64>) -> Result<Vec<(u64, u64)>, SnapshotError> {
-        let Some((low, high)) = bounds_of(range) else {
-            return Ok(Vec::new());
+        let (low, high) = match bounds_of(range) {
+            Some(bounds) => bounds,
+            None => return Ok(Vec::new()),
         };
         let mut rows = vec![blink_row::default(); 256];
         loop {
             let mut count = 0;
             // SAFETY: the seat is this handle's alone, and each other pointer is of a vector, with its length, or a variable.
-            let code =
-                unsafe { blink_range(self.at(), low, high, ROUNDS, rows.as_mut_ptr(), rows.len(), &mut count) };
+            let code = self.call(|seat| unsafe {
+                blink_range(seat, low, high, ROUNDS, rows.as_mut_ptr(), rows.len(), &mut count)
+            });
             match code {
                 BLINK_OK => {
                     rows.truncate(count as usize);
@@ -480,7 +484,7 @@ impl Handle {
     /// The row that a call of one row answers, if there is one.
     fn row(&self, call: impl FnOnce(*mut blink_seat, *mut blink_row) -> i32) -> Option<(u64, u64)> {
         let mut row = blink_row::default();
-        match call(self.at(), &mut row) {
+        match self.call(|seat| call(seat, &mut row)) {
             BLINK_OK => Some((row.key, row.value)),
             BLINK_ABSENT => None,
             code => error::unexpected(code),
@@ -490,7 +494,7 @@ impl Handle {
     /// How many rows of a range there are. It goes along them, and is exact where nobody writes meanwhile.
     pub fn count(&self, range: impl RangeBounds<u64>) -> u64 {
         let (mut rows, (low, high)) = (0, bounds_of(range).unwrap_or((1, 0)));
-        match unsafe { blink_count(self.at(), low, high, &mut rows) } {
+        match self.call(|seat| unsafe { blink_count(seat, low, high, &mut rows) }) {
             BLINK_OK => rows,
             code => error::unexpected(code),
         }
@@ -503,23 +507,24 @@ impl Handle {
     ///
     /// Where there is no memory.
     pub fn image(&self) -> io::Result<Vec<u8>> {
-        // SAFETY: the function takes any number.
-        let mut bytes = vec![0; unsafe { blink_image_length(self.shared.pages()) } as usize];
         loop {
+            // SAFETY: the function takes any number.
+            let mut bytes = vec![0; unsafe { blink_image_length(self.seats.pages()) } as usize];
             // Some more, since others may insert; and a leaf's, by which the scan reads.
             let mut rows = vec![blink_row::default(); self.count(..) as usize * 9 / 8 + LEAF_ROWS];
             let mut length = 0;
             // SAFETY: the seat is this handle's alone, and each other pointer is of a vector, with its length behind it, or a variable.
-            let code = unsafe {
+            let code = self.call(|seat| unsafe {
                 let (row, byte) = (rows.as_mut_ptr(), bytes.as_mut_ptr());
-                blink_save(self.at(), LEAF_ROWS as u32, row, rows.len(), byte, bytes.len(), &mut length)
-            };
+                blink_save(seat, LEAF_ROWS as u32, row, rows.len(), byte, bytes.len(), &mut length)
+            });
             match code {
                 BLINK_OK => {
                     bytes.truncate(length as usize);
                     return Ok(bytes);
                 }
-                BLINK_FEW_ROWS => {}
+                // Others have entered rows, or the map has grown.
+                BLINK_FEW_ROWS | BLINK_FEW_BYTES => {}
                 code => return Err(io::Error::new(io::ErrorKind::OutOfMemory, error::text(code))),
             }
         }
@@ -527,14 +532,14 @@ impl Handle {
 
     /// Does so many pieces of upkeep at most: whether nothing is left to do. No program need call it.
     pub fn upkeep(&self, most: u32) -> bool {
-        unsafe { blink_upkeep(self.at(), most) == BLINK_OK }
+        self.call(|seat| unsafe { blink_upkeep(seat, most) }) == BLINK_OK
     }
 
     /// How many pages and frames the map has, in use and free, by a look at each, and what upkeep this handle has left to do: exact
     /// where no other handle is in a call.
     pub fn stats(&self) -> Stats {
         let mut stats = Stats::default();
-        match unsafe { blink_stat(self.at(), true, &mut stats) } {
+        match self.call(|seat| unsafe { blink_stat(seat, true, &mut stats) }) {
             BLINK_OK => stats,
             code => error::unexpected(code),
         }
@@ -543,15 +548,13 @@ impl Handle {
 
 impl Drop for Handle {
     fn drop(&mut self) {
-        if let Some(seat) = self.seat.get_mut().take() {
-            self.shared.free().push(seat);
-        }
+        self.seats.lock().give(self.place);
     }
 }
 
 impl fmt::Debug for Handle {
     fn fmt(&self, f: &mut fmt::Formatter<'_>) -> fmt::Result {
-        f.debug_struct("Handle").field("pages", &self.shared.pages()).finish_non_exhaustive()
+        f.debug_struct("Handle").field("pages", &self.seats.pages()).finish_non_exhaustive()
     }
 }
 

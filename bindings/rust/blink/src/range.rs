@@ -50,9 +50,9 @@ impl Ahead {
             Way::Up => blink_scan_to,
             Way::Down => blink_scan_down_to,
         };
+        let rows = self.rows.as_mut_ptr();
         // SAFETY: the seat is the handle's alone, and each other pointer is of a vector or a variable that is there.
-        let code =
-            unsafe { scan(handle.at(), from, last, self.rows.as_mut_ptr(), room, &mut count, &mut next, &mut more) };
+        let code = handle.call(|seat| unsafe { scan(seat, from, last, rows, room, &mut count, &mut next, &mut more) });
         if code != BLINK_OK {
             error::unexpected(code);
         }

@@ -1,6 +1,7 @@
 use blink::{CloseError, ExchangeError, Handle, Map, NoRoom, NoRoomAfter, OpenError, ResizeError};
 use std::collections::BTreeMap;
 use std::ops::Bound;
+use std::sync::atomic::{AtomicBool, Ordering};
 
 type Model = BTreeMap<u64, u64>;
 
@@ -135,17 +136,92 @@ fn edges() {
 }
 
 #[test]
-fn grows() {
+fn is_resized() {
     let map = Map::new(16, 2).unwrap();
     let handle = map.handle().unwrap();
     (0..80).for_each(|k| assert_eq!(handle.insert(k, k + 1), Ok(None)));
-    assert_eq!(map.resize(32), Err(ResizeError::HandlesOut));
-    drop(handle);
+    let mut range = handle.iter();
+    assert_eq!(range.next(), Some((0, 1)));
     assert_eq!((map.resize(15), map.resize((1 << 28) + 1)), (Err(ResizeError::Pages), Err(ResizeError::Pages)));
-    assert_eq!((map.resize(1024), map.pages()), (Ok(()), 1024));
-    let (handle, other) = (map.handle().unwrap(), map.handle().unwrap());
+    assert_eq!((map.resize(1024), map.pages(), map.rescued()), (Ok(()), 1024, vec![]));
     (80..6000).for_each(|k| assert_eq!(handle.insert(k, k + 1), Ok(None)));
+    let other = map.handle().unwrap();
     assert_eq!((other.count(..), other.get(7), other.get(5999)), (6000, Some(8), Some(6000)));
+    // A range that was begun before goes on.
+    assert!(range.eq((1..6000).map(|k| (k, k + 1))));
+}
+
+/// A map without a number of pages grows while four threads enter rows and a fifth lists them, and so does one that begins with an image.
+#[test]
+fn grows() {
+    let (map, rows) = (Map::growing(6).unwrap(), 10_000u64);
+    let (first, is_over) = (map.pages(), AtomicBool::new(false));
+    map.handle().unwrap().insert(0, 0).unwrap();
+    std::thread::scope(|scope| {
+        let handle = map.handle().unwrap();
+        let lister = scope.spawn(|| {
+            let (handle, mut last) = (handle, 0);
+            while !is_over.load(Ordering::SeqCst) {
+                let keys: Vec<u64> = handle.iter().map(|row| row.0).collect();
+                assert!(keys.windows(2).all(|two| two[0] < two[1]) && keys.len() >= last);
+                last = keys.len();
+            }
+        });
+        let writers: Vec<_> = (0..4).map(|t| (t, map.handle().unwrap())).collect();
+        let writers: Vec<_> = writers.into_iter().map(|(t, handle)| scope.spawn(move || enters(&handle, t, rows))).collect();
+        writers.into_iter().for_each(|writer| writer.join().unwrap());
+        is_over.store(true, Ordering::SeqCst);
+        lister.join().unwrap();
+    });
+    let handle = map.handle().unwrap();
+    assert_eq!((handle.count(..), handle.get(0)), (4 * rows + 1, Some(4 * rows)));
+    drop(handle);
+    let pages = map.pages();
+    assert!(pages > first);
+    let again = Map::from_image(&map.close_image().unwrap(), 1).unwrap();
+    let handle = again.handle().unwrap();
+    assert_eq!(again.pages(), pages);
+    (4 * rows + 1..).take_while(|_| again.pages() == pages).for_each(|k| assert_eq!(handle.insert(k, k), Ok(None)));
+    assert_eq!(handle.get(1), Some(0));
+}
+
+/// A map that grows shrinks again once most rows have gone, and one with a number of pages does not. At the edge it does not flap.
+#[test]
+fn shrinks() {
+    let (map, fixed) = (Map::growing(2).unwrap(), Map::new(8192, 1).unwrap());
+    let (handle, other, stays) = (map.handle().unwrap(), map.handle().unwrap(), fixed.handle().unwrap());
+    for k in 0..40_000 {
+        assert_eq!((handle.put(k, k + 1), stays.put(k, k + 1)), (Ok(None), Ok(None)));
+    }
+    assert!(map.pages() >= 4096);
+    for k in 0..39_900 {
+        assert_eq!((handle.remove(k), stays.remove(k)), (Ok(Some(k + 1)), Ok(Some(k + 1))));
+    }
+    assert_eq!((map.pages(), fixed.pages()), (1024, 8192));
+    assert_eq!((other.count(..), other.first(), other.get(39_999)), (100, Some((39_900, 39_901)), Some(40_000)));
+    // A window of rows moves on: the number of pages stays where it is once it has been found.
+    (40_000..50_000).for_each(|k| assert_eq!(other.insert(k, k), Ok(None)));
+    let found = map.pages();
+    for k in 50_000..150_000 {
+        assert_eq!((other.insert(k, k), handle.remove(k - 10_000), map.pages()), (Ok(None), Ok(Some(k - 10_000)), found));
+    }
+}
+
+/// Inserts the thread's rows, counts a row up that all have, and looks back.
+fn enters(handle: &Handle, thread: u64, rows: u64) {
+    for n in 0..rows {
+        let key = n * 4 + thread + 1;
+        match n % 3 {
+            0 => assert_eq!(handle.insert(key, n), Ok(None)),
+            1 => assert_eq!(handle.put(key, n), Ok(None)),
+            _ => assert_eq!(handle.add(key, n), Ok(n)),
+        }
+        assert!(handle.update(0, |v| v + 1).unwrap().is_some());
+        assert_eq!(handle.get(key - 4 * (n / 2)), Some(n - n / 2));
+        if n % 1000 == 999 {
+            assert_eq!(handle.snapshot(key..=key).unwrap().len(), 1);
+        }
+    }
 }
 
 #[test]

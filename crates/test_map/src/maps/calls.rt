@@ -3,8 +3,7 @@
 ghost use Rattle.std.specs.Prelude.{IfSome};
 ghost use Rattle.bl_map.specs.Maps.{IsSeatOf};
 
-use crate::maps::tables::{Answer, Call, right_of};
-use crate::maps::trials::{Trial, holds_in};
+use crate::maps::tables::{Answer, Call};
 use bl_map::{Backlog, Handle, KeyReply, Map, OpenFault, Seat};
 use std::alloc::Global;
 use std::sync::Wait;
@@ -41,7 +40,7 @@ pub(crate) fn shared(alloc: Global, pages: u32) -> Option<(Map, Seat, Seat)>
 }
 
 /// A row comes and goes.
-const ROW: [(Call, Answer); 11] = [
+pub(crate) const ROW: [(Call, Answer); 11] = [
     (Call::Find(5), Answer::Key(KeyReply::Absent)),
     (Call::Insert(5, 50), Answer::Key(KeyReply::Inserted)),
     (Call::Insert(5, 60), Answer::Key(KeyReply::Present(50))),
@@ -54,11 +53,6 @@ const ROW: [(Call, Answer); 11] = [
     (Call::Change(5, 70, 80), Answer::Key(KeyReply::Absent)),
     (Call::Put(5, 60), Answer::Key(KeyReply::Inserted)),
 ];
-
-#[test]
-fn a_row_comes_and_goes(rt: HostRuntime) {
-    assert_eq!(rt; right_of(&rt, rt.alloc(), 4, &ROW), Some(11));
-}
 
 /// Inserts the keys from one on and below another. Says how many were inserted.
 pub(crate) fn fill<R: Wait>(rt: &R, handle: &mut Handle<'_>, from: u64, to: u64) -> u64 {
@@ -98,11 +92,6 @@ pub(crate) fn many_come_and_go<R: Wait>(rt: &R, alloc: Global, handle: &mut Hand
     handle.scan(rt, 3, Some(4_993), &mut rows).is_ok() && rows.as_slice() == LEFT.as_slice()
 }
 
-#[test]
-fn many_rows_come_and_go(rt: HostRuntime) {
-    assert!(rt; holds_in(&rt, rt.alloc(), 1_024, Trial::ManyRows) == Some(true));
-}
-
 /// The rows of a range, as a callback is told them.
 fn told<R: Wait>(rt: &R, handle: &mut Handle<'_>, from: u64, to: Option<u64>) -> (u64, u64, bool) {
     let mut count = 0u64;
@@ -126,11 +115,6 @@ pub(crate) fn callback_is_told<R: Wait>(rt: &R, handle: &mut Handle<'_>) -> bool
     let some = told(rt, handle, 100, Some(150));
     let none = told(rt, handle, 150, Some(150));
     all == (MANY, 4_999, true) && some == (50, 149, true) && none == (0, 0, true)
-}
-
-#[test]
-fn a_callback_is_told_each_row_once(rt: HostRuntime) {
-    assert!(rt; holds_in(&rt, rt.alloc(), 1_024, Trial::Callback) == Some(true));
 }
 
 fn fill_all<R: Threads + Wait + Sync>(rt: &R, handles: &mut [Handle<'_>]) {

@@ -1,8 +1,7 @@
 //! The least row from a key on, and how many rows there are.
 
 use crate::maps::calls::{empty, fill};
-use crate::maps::tables::{Answer, Call, right_of};
-use crate::maps::trials::{Trial, holds_in};
+use crate::maps::tables::{Answer, Call};
 use bl_map::{Handle, KeyReply};
 use std::alloc::Global;
 use std::sync::Wait;
@@ -11,7 +10,7 @@ use std::sync::Wait;
 const ROWS: u64 = 3_000;
 
 /// At the front, behind a hundred emptied leaves, at the end, and where there is none.
-const LEAST: [(Call, Answer); 12] = [
+pub(crate) const LEAST: [(Call, Answer); 12] = [
     (Call::First, Answer::NoRow),
     (Call::Fill(0, ROWS), Answer::Number(ROWS)),
     (Call::Insert(u64::MAX, 1), Answer::Key(KeyReply::Inserted)),
@@ -26,13 +25,8 @@ const LEAST: [(Call, Answer); 12] = [
     (Call::Next(u64::MAX), Answer::NoRow),
 ];
 
-#[test]
-fn the_least_row_from_a_key_on_is_found(rt: HostRuntime) {
-    assert_eq!(rt; right_of(&rt, rt.alloc(), 1_024, &LEAST), Some(12));
-}
-
 /// The same from the back.
-const GREATEST: [(Call, Answer); 9] = [
+pub(crate) const GREATEST: [(Call, Answer); 9] = [
     (Call::Last, Answer::NoRow),
     (Call::Fill(1, ROWS), Answer::Number(2_999)),
     (Call::Last, Answer::Row(2_999, 29_990)),
@@ -44,13 +38,8 @@ const GREATEST: [(Call, Answer); 9] = [
     (Call::Previous(0), Answer::NoRow),
 ];
 
-#[test]
-fn the_greatest_row_up_to_a_key_is_found(rt: HostRuntime) {
-    assert_eq!(rt; right_of(&rt, rt.alloc(), 1_024, &GREATEST), Some(9));
-}
-
 /// All, all but the greatest key, those up to an end, some, and none.
-const COUNTED: [(Call, Answer); 9] = [
+pub(crate) const COUNTED: [(Call, Answer); 9] = [
     (Call::Count(0, None), Answer::Number(0)),
     (Call::Fill(0, ROWS), Answer::Number(ROWS)),
     (Call::Insert(u64::MAX, 1), Answer::Key(KeyReply::Inserted)),
@@ -61,11 +50,6 @@ const COUNTED: [(Call, Answer); 9] = [
     (Call::Count(150, Some(150)), Answer::Number(0)),
     (Call::Count(150, Some(3)), Answer::Number(0)),
 ];
-
-#[test]
-fn rows_are_counted(rt: HostRuntime) {
-    assert_eq!(rt; right_of(&rt, rt.alloc(), 1_024, &COUNTED), Some(9));
-}
 
 /// Rows downwards over emptied leaves.
 const OVER_EMPTIED: [(u64, u64); 4] = [(2_991, 29_910), (2_990, 29_900), (19, 190), (18, 180)];
@@ -105,11 +89,6 @@ pub(crate) fn are_listed_downwards<R: Wait>(
         && is_listed(rt, alloc, handle, (2_991, 18), OVER_EMPTIED.as_slice())
         && is_listed(rt, alloc, handle, (1, 0), LOWEST.as_slice())
         && is_listed(rt, alloc, handle, (0, 1), &[])
-}
-
-#[test]
-fn rows_are_listed_downwards(rt: HostRuntime) {
-    assert!(rt; holds_in(&rt, rt.alloc(), 1_024, Trial::Downwards) == Some(true));
 }
 
 /// The rows from a key on downwards to another one, as a callback is told them.
@@ -152,9 +131,4 @@ pub(crate) fn are_told_downwards<R: Wait>(rt: &R, alloc: Global, handle: &mut Ha
         && is_told(rt, alloc, handle, (u64::MAX, 2_999), HIGHEST.as_slice())
         && is_told(rt, alloc, handle, (100, 50), &[])
         && is_told(rt, alloc, handle, (0, 1), &[])
-}
-
-#[test]
-fn a_callback_is_told_rows_downwards(rt: HostRuntime) {
-    assert!(rt; holds_in(&rt, rt.alloc(), 1_024, Trial::CallbackDownwards) == Some(true));
 }

@@ -1,7 +1,6 @@
 //! Many keys at once.
 
 use crate::maps::calls::fill;
-use crate::maps::trials::{Trial, holds_in};
 use bl_map::{Handle, KeyReply};
 use std::sync::Wait;
 
@@ -37,11 +36,6 @@ pub(crate) fn many_are_found<R: Wait>(rt: &R, handle: &mut Handle<'_>) -> bool {
     replies == FOUND
 }
 
-#[test]
-fn many_keys_are_found_at_once(rt: HostRuntime) {
-    assert!(rt; holds_in(&rt, rt.alloc(), 1_024, Trial::ManyFound) == Some(true));
-}
-
 /// There is nothing to guess at in an empty map, and no harm in it.
 pub(crate) fn none_are_found<R: Wait>(rt: &R, handle: &mut Handle<'_>) -> bool {
     let mut replies = [KeyReply::NoRoom; 2];
@@ -49,11 +43,6 @@ pub(crate) fn none_are_found<R: Wait>(rt: &R, handle: &mut Handle<'_>) -> bool {
     handle.find_many(rt, &[], &mut []);
     handle.find_many(rt, &[0, u64::MAX], &mut replies);
     replies == [KeyReply::Absent, KeyReply::Absent]
-}
-
-#[test]
-fn keys_are_looked_up_in_an_empty_map(rt: HostRuntime) {
-    assert!(rt; holds_in(&rt, rt.alloc(), 4, Trial::NoneFound) == Some(true));
 }
 
 /// Rows that are given at once: more than one group, and a key twice.
@@ -100,11 +89,6 @@ pub(crate) fn many_are_inserted<R: Wait>(rt: &R, handle: &mut Handle<'_>) -> boo
     are_inserted(rt, handle) && are_deleted(rt, handle)
 }
 
-#[test]
-fn many_rows_are_inserted_and_taken_away(rt: HostRuntime) {
-    assert!(rt; holds_in(&rt, rt.alloc(), 64, Trial::ManyInserted) == Some(true));
-}
-
 /// They are put beside two rows that are there already, of which one keeps its value.
 fn are_put<R: Wait>(rt: &R, handle: &mut Handle<'_>) -> bool {
     if handle.insert(rt, 5, 55) != KeyReply::Inserted
@@ -135,11 +119,6 @@ pub(crate) fn many_are_put<R: Wait>(rt: &R, handle: &mut Handle<'_>) -> bool {
             KeyReply::Found(20),
             KeyReply::Found(40),
         ]
-}
-
-#[test]
-fn many_rows_are_put(rt: HostRuntime) {
-    assert!(rt; holds_in(&rt, rt.alloc(), 64, Trial::ManyPut) == Some(true));
 }
 
 /// The rows of the keys 0 to 63.
@@ -186,11 +165,6 @@ pub(crate) fn are_inserted_until_full<R: Wait>(rt: &R, handle: &mut Handle<'_>) 
     end_full(&replies, answered, KeyReply::Inserted) && is_left(rt, handle, &replies, answered)
 }
 
-#[test]
-fn rows_are_inserted_up_to_the_first_that_finds_no_room(rt: HostRuntime) {
-    assert!(rt; holds_in(&rt, rt.alloc(), 4, Trial::InsertedUntilFull) == Some(true));
-}
-
 /// The rows that are there are replaced where nothing is free any more, and the first new one finds no room.
 pub(crate) fn are_put_until_full<R: Wait>(rt: &R, handle: &mut Handle<'_>) -> bool {
     let rows = sevens();
@@ -201,9 +175,4 @@ pub(crate) fn are_put_until_full<R: Wait>(rt: &R, handle: &mut Handle<'_>) -> bo
     }
     let second = handle.put_many(rt, &rows, &mut replies);
     second == first && end_full(&replies, second, KeyReply::Replaced(7))
-}
-
-#[test]
-fn rows_are_put_up_to_the_first_that_finds_no_room(rt: HostRuntime) {
-    assert!(rt; holds_in(&rt, rt.alloc(), 4, Trial::PutUntilFull) == Some(true));
 }

@@ -1,7 +1,6 @@
 //! Rows by pages: so many at most, and from where the next ones begin. Rows of a range, at one moment.
 
 use crate::maps::calls::fill;
-use crate::maps::trials::{Trial, holds_in};
 use bl_map::{Handle, KeyReply};
 use std::alloc::Global;
 use std::sync::Wait;
@@ -59,11 +58,6 @@ pub(crate) fn are_listed_by_pages<R: Wait>(rt: &R, alloc: Global, handle: &mut H
         && are_tens(rows.as_slice(), 5, 25)
 }
 
-#[test]
-fn rows_are_listed_seven_at_a_time(rt: HostRuntime) {
-    assert!(rt; holds_in(&rt, rt.alloc(), 64, Trial::Pages) == Some(true));
-}
-
 /// As many as are left, to an end and to that of the map; all; none; and below no key.
 const LAST: [Page; 6] = [
     (23, Some(30), 7, None),
@@ -81,11 +75,6 @@ pub(crate) fn last_pages_are_listed<R: Wait>(
 ) -> bool {
     let mut rows = Vec::new(alloc);
     fill(rt, handle, 0, ROWS) == ROWS && list_by(rt, handle, &LAST, &mut rows) && rows.len() == 54
-}
-
-#[test]
-fn nothing_is_left_behind_the_last_row(rt: HostRuntime) {
-    assert!(rt; holds_in(&rt, rt.alloc(), 64, Trial::LastPages) == Some(true));
 }
 
 /// A map that has no row.
@@ -113,11 +102,6 @@ pub(crate) fn greatest_key_is_listed<R: Wait>(
         && rows.as_slice() == [(3, 30), (u64::MAX, 1)].as_slice()
 }
 
-#[test]
-fn the_greatest_key_is_listed_last(rt: HostRuntime) {
-    assert!(rt; holds_in(&rt, rt.alloc(), 64, Trial::GreatestKey) == Some(true));
-}
-
 /// Ranges with an end and without one, each behind the rows of those before; one whose end is not above its first key; and how many rows they
 /// have. Nobody writes, so none begins again.
 pub(crate) fn ranges_are_read<R: Wait>(rt: &R, alloc: Global, handle: &mut Handle<'_>) -> bool {
@@ -131,9 +115,4 @@ pub(crate) fn ranges_are_read<R: Wait>(rt: &R, alloc: Global, handle: &mut Handl
         && are_tens(rows.as_slice(), 7, 33)
         && handle.count_range(rt, alloc, 7, Some(30), 0) == Ok(23)
         && handle.count_range(rt, alloc, 9, Some(9), 0) == Ok(0)
-}
-
-#[test]
-fn a_range_has_the_rows_between_two_keys(rt: HostRuntime) {
-    assert!(rt; holds_in(&rt, rt.alloc(), 64, Trial::Ranges) == Some(true));
 }

@@ -1,7 +1,6 @@
 //! Rows that come and go find room, and a map is put in order when they have gone.
 
 use crate::maps::calls::{empty, fill, shared};
-use crate::maps::trials::{Trial, holds_in};
 use bl_map::{Handle, KeyReply, RoomSeen};
 use std::sync::Wait;
 use std::test::Fail;
@@ -71,11 +70,6 @@ pub(crate) fn waves_find_room<R: Wait>(rt: &R, handle: &mut Handle<'_>) -> bool 
     handle.free_pages() == FREE
 }
 
-#[test]
-fn waves_find_room_and_leave_one_leaf(rt: HostRuntime) {
-    assert!(rt; holds_in(&rt, rt.alloc(), PAGES, Trial::Waves) == Some(true));
-}
-
 /// A full map lacks pages until its rows go.
 pub(crate) fn full_map_refuses<R: Wait>(rt: &R, handle: &mut Handle<'_>) -> bool {
     let rows = fill(rt, handle, 0, 14 * u64::from(PAGES));
@@ -83,11 +77,6 @@ pub(crate) fn full_map_refuses<R: Wait>(rt: &R, handle: &mut Handle<'_>) -> bool
         && handle.lacks_pages()
         && empty(rt, handle, 0, rows) == rows
         && fill(rt, handle, 0, SURELY) == SURELY
-}
-
-#[test]
-fn a_full_map_refuses_until_a_row_goes(rt: HostRuntime) {
-    assert!(rt; holds_in(&rt, rt.alloc(), PAGES, Trial::FullMap) == Some(true));
 }
 
 /// The anchor and one leaf, with a frame each. There are two frames for each page, and eight for the seat.
@@ -114,9 +103,4 @@ pub(crate) fn room_is_right<R: Wait>(rt: &R, handle: &mut Handle<'_>) -> bool {
     }
     handle.tidy(rt);
     handle.room() == WHEN_SPLIT
-}
-
-#[test]
-fn room_is_counted_at_rest(rt: HostRuntime) {
-    assert!(rt; holds_in(&rt, rt.alloc(), 64, Trial::Room) == Some(true));
 }

@@ -1,7 +1,8 @@
 //! Calls of the one handle of a new map, and what they must answer, in tables. One function owns the map for all of them, so no test owns
 //! one: what a test owns makes its proof long.
 
-use crate::maps::calls::{empty, fill, opened};
+use crate::maps::calls::{ROW, empty, fill, opened};
+use crate::maps::counts::{COUNTED, GREATEST, LEAST};
 use bl_map::{Handle, KeyReply};
 use std::alloc::Global;
 use std::sync::Wait;
@@ -77,7 +78,7 @@ fn count_right<R: Wait>(rt: &R, handle: &mut Handle<'_>, calls: &[(Call, Answer)
 }
 
 /// The same in a new map of so many pages; nothing, where none is opened.
-pub(crate) fn right_of<R: Wait>(
+fn right_of<R: Wait>(
     rt: &R,
     alloc: Global,
     pages: u32,
@@ -86,4 +87,20 @@ pub(crate) fn right_of<R: Wait>(
     let (map, seat) = opened(alloc, pages)?;
     let mut handle = map.handle(seat);
     Some(count_right(rt, &mut handle, calls))
+}
+
+/// Each table, with the pages of the map in which its calls are made.
+const TABLES: [(u32, &[(Call, Answer)]); 4] = [
+    (4, &ROW),
+    (1_024, &LEAST),
+    (1_024, &GREATEST),
+    (1_024, &COUNTED),
+];
+
+#[test]
+fn calls_answer_as_their_tables_say(rt: HostRuntime) {
+    for (pages, calls) in TABLES {
+        let right = right_of(&rt, rt.alloc(), pages, calls);
+        assert_eq!(rt; right, Some(calls.len() as u64));
+    }
 }

@@ -1,7 +1,6 @@
 //! A row is changed by a function of its value, and a map that is in use is copied.
 
 use crate::maps::calls::{fill, shared};
-use crate::maps::trials::{Trial, holds_in};
 use bl_check::Quiet;
 use bl_map::{Handle, KeyReply, LoadFault, Map, Updated};
 use std::alloc::Global;
@@ -26,11 +25,6 @@ pub(crate) fn function_changes<R: Wait>(rt: &R, handle: &mut Handle<'_>) -> bool
         return false;
     }
     handle.find(rt, 5) == KeyReply::Found(200)
-}
-
-#[test]
-fn a_row_is_changed_by_a_function(rt: HostRuntime) {
-    assert!(rt; holds_in(&rt, rt.alloc(), 4, Trial::Function) == Some(true));
 }
 
 /// What an update by one handle answers whose row another handle changes behind its back, once, and how often the function is called.
@@ -109,9 +103,4 @@ pub(crate) fn copy_opens<R: Wait>(rt: &R, alloc: Global, handle: &mut Handle<'_>
         && handle.copy(rt, alloc, 2).err() == Some(LoadFault::Room)
         && found_in_copy(rt, alloc, handle, 17) == Some((3_000, KeyReply::Found(170)))
         && handle.find(rt, 17) == KeyReply::Absent
-}
-
-#[test]
-fn a_copy_opens_as_a_map(rt: HostRuntime) {
-    assert!(rt; holds_in(&rt, rt.alloc(), 1_024, Trial::Copy) == Some(true));
 }
