@@ -1,15 +1,23 @@
 /* Each call of a crowd is answered: crowded THREADS KEYS CALLS. So many threads, each with a seat of its own, write so few keys of one map and
- * look them up, by calls that come back at once. A call that was told BLINK_AGAIN is made again, and has to be answered within a million tries.
- * It says how many tries and how much time the longest call took: it is the scheduler's, where there are more threads than processors. */
+ * look them up. What was told BLINK_AGAIN the header makes again, and it has to be answered within a million tries. It says how many tries and
+ * how much time the longest call took: it is the scheduler's, where there are more threads than processors. */
+#include <sched.h>
+#include <stdint.h>
+
+static void try_again(void);
+#define BLINK_YIELD() try_again()
 #include "blink.h"
+#include "drawn.h"
 
 #include <inttypes.h>
 #include <pthread.h>
 #include <stdio.h>
 #include <stdlib.h>
-#include <time.h>
 
 enum { MOST = 64, PAGES = 64, TRIES = 1000000 };
+
+/* How often the call of this thread was made so far. */
+static _Thread_local uint64_t tries;
 
 typedef struct worker {
     blink_seat *seat;
@@ -20,40 +28,34 @@ static blink_seat seats[MOST];
 static worker workers[MOST];
 static uint64_t keys, calls_each;
 
-static uint64_t now(void) {
-    struct timespec time;
-    clock_gettime(CLOCK_MONOTONIC, &time);
-    return (uint64_t)time.tv_sec * 1000000000u + (uint64_t)time.tv_nsec;
+/* What the header does between two tries. */
+static void try_again(void) {
+    if (++tries > TRIES) {
+        fprintf(stderr, "crowded: a call is not answered\n");
+        exit(1);
+    }
+    sched_yield();
 }
 
-static uint64_t draw(worker *me, uint64_t limit) {
-    me->drawn ^= me->drawn << 13;
-    me->drawn ^= me->drawn >> 7;
-    me->drawn ^= me->drawn << 17;
-    return (me->drawn * 0x2545F4914F6CDD1Du >> 33) % limit;
-}
-
-/* One try of the call of a kind. */
-static int32_t try_call(worker *me, uint64_t kind, uint64_t key) {
+/* The call of a kind. */
+static int32_t call(worker *me, uint64_t kind, uint64_t key) {
     uint64_t value = 0;
     switch (kind) {
-        case 0: return blink_try_find(me->seat, key, &value);
-        case 1: return blink_try_insert(me->seat, key, me->made, &value);
-        case 2: return blink_try_put(me->seat, key, me->made, &value);
-        default: return blink_try_delete(me->seat, key, &value);
+        case 0: return blink_find(me->seat, key, &value);
+        case 1: return blink_insert(me->seat, key, me->made, &value);
+        case 2: return blink_put(me->seat, key, me->made, &value);
+        default: return blink_delete(me->seat, key, &value);
     }
 }
 
 static void *work(void *place) {
     worker *me = place;
     for (me->made = 0; me->made < calls_each; me->made++) {
-        const uint64_t kind = draw(me, 4), key = draw(me, keys), begin = now();
-        uint64_t tries = 1, took;
+        const uint64_t kind = draw(&me->drawn, 4), key = draw(&me->drawn, keys), begin = now();
+        uint64_t took;
         int32_t answer;
-        while ((answer = try_call(me, kind, key)) == BLINK_AGAIN) {
-            if (++tries > TRIES) break;
-            BLINK_YIELD();
-        }
+        tries = 1;
+        answer = call(me, kind, key);
         took = now() - begin;
         me->again += tries - 1;
         if (answer != BLINK_OK && answer != BLINK_ABSENT && answer != BLINK_PRESENT) {

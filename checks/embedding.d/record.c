@@ -9,12 +9,12 @@
  * the thread, the nanoseconds right before the call and right behind it, the key, what was asked, and what was answered; and behind each
  * round the line `round`. At the end it says on standard error how often what has happened. */
 #include "blink.h"
+#include "drawn.h"
 
 #include <inttypes.h>
 #include <pthread.h>
 #include <stdio.h>
 #include <stdlib.h>
-#include <time.h>
 
 enum { MOST = 64, SPAN = 24, ROUNDS = 3 };
 enum asked { FIND, INSERT, PUT, DELETE, CHANGE };
@@ -44,23 +44,10 @@ static void fail(const char *what, int32_t answer) {
     exit(1);
 }
 
-static uint64_t now(void) {
-    struct timespec time;
-    clock_gettime(CLOCK_MONOTONIC, &time);
-    return (uint64_t)time.tv_sec * 1000000000u + (uint64_t)time.tv_nsec;
-}
-
-static uint64_t draw(worker *me, uint64_t limit) {
-    me->drawn ^= me->drawn << 13;
-    me->drawn ^= me->drawn >> 7;
-    me->drawn ^= me->drawn << 17;
-    return (me->drawn * 0x2545F4914F6CDD1Du >> 33) % limit;
-}
-
 static void list(worker *me, uint64_t first) {
     blink_row rows[SPAN * 2 + BLINK_LEAF_ROWS];
     size_t count = 0, at = 0;
-    uint64_t next = 0, begin = now(), end, last = first + draw(me, SPAN);
+    uint64_t next = 0, begin = now(), end, last = first + draw(&me->drawn, SPAN);
     bool more = false;
     int32_t answer = blink_scan(me->seat, first, rows, SPAN * 2 + BLINK_LEAF_ROWS, &count, &next, &more);
     if (answer != BLINK_OK) fail("scan", answer);
@@ -97,7 +84,7 @@ static bool is_to_go(const worker *me) {
 static bool gives_up(worker *me, const call *it) {
     if (often == 0) return false;
     if (it->asked != FIND && is_to_go(me)) me->has_left = true;
-    return me->has_left || draw(me, often) == 0;
+    return me->has_left || draw(&me->drawn, often) == 0;
 }
 
 /* Makes a call until it is answered or given up. */
@@ -147,7 +134,7 @@ static void *work(void *place) {
     worker *me = place;
     me->count = 0;
     while (me->count < calls_each && !me->has_left) {
-        uint64_t key = first_key + draw(me, keys), drawn = draw(me, 100);
+        uint64_t key = first_key + draw(&me->drawn, keys), drawn = draw(&me->drawn, 100);
         if (drawn < 6) {
             list(me, key);
             continue;
@@ -164,7 +151,7 @@ static void *work(void *place) {
         }
         make(me, it);
     }
-    if (me->has_left && draw(me, 3) == 0) close_midway(me);
+    if (me->has_left && draw(&me->drawn, 3) == 0) close_midway(me);
     return NULL;
 }
 
@@ -176,7 +163,7 @@ static void run_round(void) {
     }
     for (int t = 0; t < threads; t++) {
         pthread_join(ids[t], NULL);
-        if (workers[t].has_left && workers[t].seat->at && draw(&workers[t], 2)) close_midway(&workers[t]);
+        if (workers[t].has_left && workers[t].seat->at && draw(&workers[t].drawn, 2)) close_midway(&workers[t]);
     }
 }
 

@@ -6,8 +6,8 @@
 #include <string.h>
 
 enum { PAGES = 65536, WIDTH = 100 };
-enum what { INSERT, FIND, PUT, CHANGE, DELETE, EMPTY, SCAN, RANGE, KINDS };
-static const char *const names[KINDS] = { "insert", "find", "put", "change", "delete", "empty", "scan", "range" };
+enum what { INSERT, FIND, PUT, CHANGE, DELETE, EMPTY, SCAN, RANGE, LIMITED, KINDS };
+static const char *const names[KINDS] = { "insert", "find", "put", "change", "delete", "empty", "scan", "range", "limited" };
 static blink_seat seat;
 
 static uint64_t key_of(uint64_t row) {
@@ -56,6 +56,9 @@ static bool call(enum what what, uint64_t rows, uint64_t turn) {
         case RANGE:
             from = turn * 7919 % (rows - WIDTH);
             return blink_range(&seat, from, from + WIDTH - 1, 64, list, WIDTH, &next) == BLINK_OK && next == WIDTH;
+        case LIMITED:
+            from = turn * 7919 % (rows - WIDTH);
+            return blink_scan(&seat, from, list, WIDTH, &count, &next, &more) == BLINK_OK && count == WIDTH;
         default:
             from = turn * 7919 % (rows - WIDTH);
             return blink_scan_to(&seat, from, from + WIDTH - 1, list, WIDTH, &count, &next, &more) == BLINK_OK && count == WIDTH;

@@ -3,8 +3,8 @@ use Rattle.std.proofs.Common.{◌≡◌, ℕ, Bool, true, false, Option, Some, N
 use Rattle.std.specs.Prelude.{ℤ, pos, MatchOption}
 use mir.Val.{to_z, of_z}
 use mir.Syntax.{w32}
-use Rattle.bl_model.specs.declared.operation.Reply.{Reply}
-use Rattle.bl_model.specs.declared.operation.Reply.TheVariants.{Found, Absent, Inserted, Present, Replaced, Deleted, Changed, Differs, Rows, NoRoom}
+use Rattle.bl_model.specs.declared.operation.KeyReply.{KeyReply}
+use Rattle.bl_model.specs.declared.operation.KeyReply.TheVariants.{Found, Absent, Inserted, Present, Replaced, Deleted, Changed, Differs, NoRoom}
 use Rattle.bl_ffi_seats.specs.declared.seat.Seat.{Seat}
 use Rattle.bl_ffi_seats.specs.Seats.{IsSameSeat}
 use Rattle.bl_ffi.specs.declared.seat.SeatOfC.{SeatOfC}
@@ -18,7 +18,7 @@ called old new code Comes s t was is same comes =
 again : (code n : ℤ) → code ≡ n → to_z w32 (of_z w32 n) ≡ n → to_z w32 (of_z w32 code) ≡ n
 again code n is fits = ap (λ (z : ℤ). to_z w32 (of_z w32 z)) is ∙ fits
 
-pub code_kept : (r : Reply) (code : ℤ) (w : ℕ) → IsCodeOf r code w → IsCodeOf r (to_z w32 (of_z w32 code)) w
+pub code_kept : (r : KeyReply) (code : ℤ) (w : ℕ) → IsCodeOf r code w → IsCodeOf r (to_z w32 (of_z w32 code)) w
 code_kept (Found v) code w h = (again code (pos 0) h.0 refl, h.1)
 code_kept Absent code w h = again code (pos 1) h refl
 code_kept Inserted code w h = again code (pos 0) h refl
@@ -27,7 +27,6 @@ code_kept (Replaced v) code w h = (again code (pos 2) h.0 refl, h.1)
 code_kept (Deleted v) code w h = (again code (pos 0) h.0 refl, h.1)
 code_kept Changed code w h = again code (pos 0) h refl
 code_kept (Differs v) code w h = (again code (pos 2) h.0 refl, h.1)
-code_kept (Rows rows next) code w h = absurd h
 code_kept NoRoom code w h = again code (pos 3) h refl
 
 pub not_true : (b : Bool) → b ≡ false → b ≡ true → ⊥

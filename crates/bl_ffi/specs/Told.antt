@@ -2,11 +2,12 @@
 use Rattle.std.specs.Prelude.{◌≡◌, ◌⊎◌, ◌+◌, ◌≤◌, ℕ, ℤ, pos, min, Bool, true, false, Some, None, List, [], ◌∷◌, ◌++◌, map, take, drop, length, MatchOption, MatchBool}
 use Rattle.std.specs.Arc.{arc_value}
 use Rattle.bl_model.specs.declared.operation.KeyReply.{KeyReply}
+use Rattle.bl_model.specs.declared.operation.KeyReply.TheVariants.{Found, Absent, Inserted, Present, Replaced, Deleted, Changed, Differs, NoRoom}
 use Rattle.bl_model.specs.declared.operation.Next.{Next}
 use Rattle.bl_model.specs.declared.operation.Next.TheVariants.{More, End}
 use Rattle.bl_model.specs.declared.operation.Op.{Op}
 use Rattle.bl_model.specs.declared.operation.Reply.{Reply}
-use Rattle.bl_model.specs.declared.operation.Reply.TheVariants.{Found, Absent, Inserted, Present, Replaced, Deleted, Changed, Differs, Rows, NoRoom}
+use Rattle.bl_model.specs.declared.operation.Reply.TheVariants.{Rows}
 use Rattle.bl_model.specs.declared.deciding.KeyWrite.{KeyWrite}
 use Rattle.bl_model.specs.Replies.{reply_of}
 use Rattle.bl_waiting.specs.Queue.{hints_of}
@@ -19,7 +20,7 @@ use Rattle.bl_ffi.specs.declared.seat.SeatOfC.{SeatOfC}
 use Rattle.bl_ffi.specs.declared.stats.Stats.{Stats}
 
 -- the code of a reply, and the value that is written beside it
-abbrev pub IsCodeOf : Reply → ℤ → ℕ → Type 0
+abbrev pub IsCodeOf : KeyReply → ℤ → ℕ → Type 0
 IsCodeOf (Found value) code written = (code ≡ pos 0) × (written ≡ value)
 IsCodeOf Absent code written = code ≡ pos 1
 IsCodeOf Inserted code written = code ≡ pos 0
@@ -28,7 +29,6 @@ IsCodeOf (Replaced value) code written = (code ≡ pos 2) × (written ≡ value)
 IsCodeOf (Deleted value) code written = (code ≡ pos 0) × (written ≡ value)
 IsCodeOf Changed code written = code ≡ pos 0
 IsCodeOf (Differs value) code written = (code ≡ pos 2) × (written ≡ value)
-IsCodeOf (Rows rows next) code written = ⊥
 IsCodeOf NoRoom code written = code ≡ pos 3
 
 -- A call of a closed seat is told so, and the seat stays closed. A call of another one is told what the call has come to, and the seat is
@@ -39,12 +39,12 @@ Calls old new code Comes = MatchOption old.seat ((code ≡ pos 9) × (new.seat �
 -- A search. It was answered so; or it ran out of turns, and is to be made again. It loses no upkeep.
 abbrev pub TellsFound : Op → SeatOfC → SeatOfC → ℤ → ℕ → Type 0
 TellsFound op old new code written = Calls old new code (λ s t. KeepsUpkeep s t
-    × (((code ≡ pos 4) × HasRunOut s t) ⊎ ((reply : Reply) × IsCodeOf reply code written × HasFound op reply s t)))
+    × (((code ≡ pos 4) × HasRunOut s t) ⊎ ((reply : KeyReply) × IsCodeOf reply code written × HasFound op (reply_of reply) s t)))
 
 -- A write. It was answered so; or it has not been done, and nothing of it is left.
-abbrev pub TellsWritten : ℕ → KeyWrite → SeatOfC → SeatOfC → ℤ → ℕ → Type 0
-TellsWritten key write old new code written = Calls old new code (λ s t.
-    ((code ≡ pos 4) × HasNotWritten s t) ⊎ ((reply : KeyReply) × IsCodeOf (reply_of reply) code written × HasWritten key write reply s t))
+abbrev pub TellsWritten : Op → ℕ → KeyWrite → SeatOfC → SeatOfC → ℤ → ℕ → Type 0
+TellsWritten op key write old new code written =
+    Calls old new code (λ s t. ((code ≡ pos 4) × HasNotWritten s t) ⊎ ((reply : KeyReply) × IsCodeOf reply code written × HasWritten op key write reply s t))
 
 -- a key and its value, as C has them
 abbrev pub row_of : ℕ × ℕ → Row

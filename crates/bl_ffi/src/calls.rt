@@ -2,7 +2,7 @@
 
 ghost use Rattle.std.specs.Prelude.{◌≡◌, ◌≢◌, ◌<◌, ◌≤◌, pos, drop, length};
 ghost use Rattle.bl_model.specs.declared.operation.Op.TheVariants as op;
-ghost use Rattle.bl_model.specs.Replies.{reply_of};
+ghost use Rattle.bl_model.specs.Writes.{write_op};
 ghost use Rattle.bl_model.specs.declared.deciding.KeyWrite.TheVariants as key_write;
 ghost use Rattle.bl_proc.specs.Parts.{op_toward};
 ghost use Rattle.bl_ffi.specs.Told.{IsCodeOf, TellsFound, TellsWritten, Closes, Calls, IsRows, IsFilled, Lists, next_behind, TellsUpkeep, StaysAsItWas};
@@ -23,7 +23,7 @@ pub struct Row {
 
 /// The code of a reply, and the value that stands beside it.
 fn told(reply: KeyReply, value: &mut u64) -> i32
-    ensures { IsCodeOf (reply_of reply) result value.new }
+    ensures { IsCodeOf reply result value.new }
 {
     match reply {
         KeyReply::Inserted | KeyReply::Changed => OK,
@@ -85,9 +85,9 @@ pub extern "C" fn blink_fetch(alloc: Global, seat: &mut SeatOfC, keys: &[u64]) -
     OK
 }
 
-/// TellsWritten a key, and puts the value beside the reply.
+/// Writes a key, and puts the value beside the reply.
 fn write(alloc: Global, seat: &mut SeatOfC, key: u64, write: KeyWrite, value: &mut u64) -> i32
-    ensures { TellsWritten key write seat.old seat.new result value.new }
+    ensures { TellsWritten (write_op key write) key write seat.old seat.new result value.new }
 {
     let Some(mut mine) = taken(alloc, seat) else {
         return CLOSED;
@@ -109,7 +109,7 @@ pub extern "C" fn blink_try_insert(
     value: u64,
     there: &mut u64,
 ) -> i32
-    ensures { TellsWritten key (key_write.Insert value) seat.old seat.new result there.new }
+    ensures { TellsWritten (op.Insert key value) key (key_write.Insert value) seat.old seat.new result there.new }
 {
     write(alloc, seat, key, KeyWrite::Insert(value), there)
 }
@@ -123,7 +123,7 @@ pub extern "C" fn blink_try_put(
     value: u64,
     old: &mut u64,
 ) -> i32
-    ensures { TellsWritten key (key_write.Put value) seat.old seat.new result old.new }
+    ensures { TellsWritten (op.Put key value) key (key_write.Put value) seat.old seat.new result old.new }
 {
     write(alloc, seat, key, KeyWrite::Put(value), old)
 }
@@ -136,7 +136,7 @@ pub extern "C" fn blink_try_delete(
     key: u64,
     gone: &mut u64,
 ) -> i32
-    ensures { TellsWritten key key_write.Delete seat.old seat.new result gone.new }
+    ensures { TellsWritten (op.Delete key) key key_write.Delete seat.old seat.new result gone.new }
 {
     write(alloc, seat, key, KeyWrite::Delete, gone)
 }
@@ -151,7 +151,7 @@ pub extern "C" fn blink_try_change(
     new: u64,
     there: &mut u64,
 ) -> i32
-    ensures { TellsWritten key (key_write.Change old new) seat.old seat.new result there.new }
+    ensures { TellsWritten (op.Change key old new) key (key_write.Change old new) seat.old seat.new result there.new }
 {
     write(alloc, seat, key, KeyWrite::Change(old, new), there)
 }
@@ -180,7 +180,7 @@ fn next_behind(pairs: &[(u64, u64)], taken: usize, next: Next) -> Next
     }
 }
 
-/// TellsWritten the rows of a reply into the caller's array, as many as it has room for. Where it has room for all, the way to the next part is
+/// Writes the rows of a reply into the caller's array, as many as it has room for. Where it has room for all, the way to the next part is
 /// short from that page.
 fn listed(reply: &Reply, near: u32, rows: &mut [Row], part: &mut Part)
     requires { IsRows reply.now }
@@ -231,12 +231,12 @@ fn list(
     };
     let answer = mine.part(direction, from, &mut near);
     put_back(alloc, seat, mine);
-    match answer {
-        Some(reply) => {
-            listed(&reply, near.unwrap_or(0), rows, part);
+    match &answer {
+        Ok(reply) => {
+            listed(reply, near.unwrap_or(0), rows, part);
             OK
         }
-        None => AGAIN,
+        Err(_) => AGAIN,
     }
 }
 

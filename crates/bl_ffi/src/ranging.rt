@@ -68,7 +68,7 @@ pub extern "C" fn blink_try_range(
         *count = 0;
         return OK;
     }
-    let done = mine.range(alloc, from, end_behind(last), rounds);
+    let done = mine.range(alloc, from, end_behind(last), rounds, rows.len());
     put_back(alloc, seat, mine);
     match done {
         Ok(pairs) => written(pairs.as_slice(), rows, count),

@@ -21,7 +21,7 @@ pub written_or_not : (index : Index) (key : ℕ) (write : KeyWrite) (old new : S
     → IfNone r (WritesNone (first_of index) (number_of old.pass) (IsRefused old.walk new.walk) old.waiting new.waiting (trail old.pass) (trail new.pass))
     → IfNone r (Adds (first_of index) (number_of old.pass) (trail old.pass) (trail new.pass))
     → IfNone r (StaysAlone (first_of index) index (trail old.pass) (trail new.pass))
-    → MatchOption r (HasNotWritten old new) (λ reply. HasWritten key write reply old new)
+    → MatchOption r (HasNotWritten old new) (λ reply. HasWritten (write_op key write) key write reply old new)
 written_or_not index key write old new None at writes works no_room none adds alone = record {
   adds = subst (λ (z : Index). Adds (first_of z) (number_of old.pass) (trail old.pass) (trail new.pass)) at adds;
   alone = subst (λ (z : Index). StaysAlone (first_of z) z (trail old.pass) (trail new.pass)) at alone;

@@ -14,7 +14,6 @@ use Rattle.bl_index_range.specs.Ranges.{ReadsRange, StopsRange}
 use Rattle.bl_index_range.specs.declared.ranging.RangeFault.{RangeFault}
 use Rattle.bl_index.specs.Calls.{first_of, pages_of, IsSamePass, number_of, trail, StaysAlone, AllSwept}
 use Rattle.bl_index.specs.Meetings.{Meet}
-use Rattle.bl_model.specs.Writes.{write_op}
 use Rattle.bl_map_calls.specs.Works.{Works, Adds, Swept, FoundNoRoom}
 use Rattle.bl_map_calls.specs.Tries.{WritesAtOnce, WritesNone, IsRefused, KeepsUp, HasNothingToDo}
 use Rattle.bl_ffi_seats.specs.declared.seat.Seat.{Seat}
@@ -65,9 +64,9 @@ HasStopped from to rounds fault old new =
     StopsRange (first_of_seat old) (pages_of_seat old) (seat_number old) (pages_of_seat old) rounds from to fault (seen_at old) (seen_at new)
 
 -- A write was answered so, as the same call of the map. Where there was no room, what it wanted is what the pass was refused last.
-pub record HasWritten (key : ℕ) (write : KeyWrite) (reply : KeyReply) (old new : Seat) : Type 0 where
-  pub works : Works (first_of_seat old) (seat_number old) (write_op key write) (reply_of reply) (seen_at old) (seen_at new)
-  pub writes : WritesAtOnce (first_of_seat old) (seat_number old) (write_op key write) (reply_of reply) old.waiting new.waiting (seen_at old) (seen_at new)
+pub record HasWritten (op : Op) (key : ℕ) (write : KeyWrite) (reply : KeyReply) (old new : Seat) : Type 0 where
+  pub works : Works (first_of_seat old) (seat_number old) op (reply_of reply) (seen_at old) (seen_at new)
+  pub writes : WritesAtOnce (first_of_seat old) (seat_number old) op (reply_of reply) old.waiting new.waiting (seen_at old) (seen_at new)
   pub no_room : reply ≡ replies.NoRoom → FoundNoRoom key write old.pass new.pass
 
 -- It has not been done, and nothing of it is left: the seat has added no entry, and a seat that is alone has the map as it was. It looked for

@@ -1,23 +1,52 @@
 //! Ranges from a seat: the rows between two keys as the map had them at one moment.
 
-ghost use Rattle.std.specs.Prelude.{MatchResult};
+ghost use Rattle.std.specs.Prelude.{◌≡◌, [], MatchResult};
 ghost use Rattle.bl_index_read.specs.LeafRows.{IsBelow};
 
 use crate::seat::Seat;
-use bl_index::{RangeFault, RangeLimits};
+use bl_index::{Kept, RangeFault, RangeLimits};
 use std::alloc::Global;
+
+/// Before a range is read, room is made for so many rows at most, and for the leaves that they half fill: vectors that grow meanwhile take
+/// longer.
+const ROWS: usize = 256;
+
+/// How many rows a leaf has that is half full.
+const HALF: usize = 7;
+
+/// No rows, with room for some where there is memory.
+fn room_for_rows(alloc: Global, most: usize) -> Vec<(u64, u64)>
+    ensures { result.items ≡ [] }
+{
+    match Vec::with_capacity(alloc, most.min(ROWS)) {
+        Ok(rows) => rows,
+        Err(_) => Vec::new(alloc),
+    }
+}
+
+/// No leaves, with room for some.
+fn room_for_leaves(alloc: Global, most: usize) -> Vec<Kept>
+    ensures { result.items ≡ [] }
+{
+    match Vec::with_capacity(alloc, most.min(ROWS) / HALF + 1) {
+        Ok(leaves) => leaves,
+        Err(_) => Vec::new(alloc),
+    }
+}
 
 impl Seat {
     ghost use Rattle.bl_ffi_seats.specs.Seats.{IsSameSeat, KeepsUpkeep, HasRead, HasStopped};
 
     /// The rows from a key on and below an end, if there is one, which is above the key: all of them as the map had them at one moment of the
-    /// call. Where others have put a leaf of it meanwhile it is read again from there on, so many times at most.
+    /// call. Where others have put a leaf of it meanwhile it is read again from there on, so many times at most. It makes room at first for
+    /// the rows that its caller has room for.
     pub fn range(
         &mut self,
         alloc: Global,
         from: u64,
         to: Option<u64>,
         rounds: u32,
+        room: usize,
     ) -> Result<Vec<(u64, u64)>, RangeFault>
         requires { IsBelow to from }
         ensures same { IsSameSeat self.old self.new }
@@ -25,8 +54,8 @@ impl Seat {
         ensures ranged { MatchResult result (λ rows. HasRead from to rows.items self.old self.new) (λ fault. HasStopped from to rounds fault self.old self.new) }
     {
         let turns = self.index.patience();
-        let mut kept = Vec::new(alloc);
-        let mut rows = Vec::new(alloc);
+        let mut kept = room_for_leaves(alloc, room);
+        let mut rows = room_for_rows(alloc, room);
         match self.index.range_into(
             &mut self.pass,
             from,

@@ -4,7 +4,7 @@ ghost use Rattle.std.specs.Arc.{arc_value};
 ghost use Rattle.bl_index.specs.Calls.{IsPassOf};
 ghost use Rattle.bl_map_calls.specs.Seats.{IsPassOf-prop};
 
-use bl_index::{Direction, Index, KeyReply, KeyWrite, Pass, Reply, RoomSeen};
+use bl_index::{Direction, Index, KeyReply, KeyWrite, OutOfTurns, Pass, Reply, RoomSeen};
 use bl_map_calls::trying;
 use bl_map_calls::walking::Walk;
 use bl_waiting::Waiting;
@@ -23,9 +23,10 @@ pub struct Seat {
 }
 
 impl Seat {
-    ghost use Rattle.std.specs.Prelude.{◌≡◌, ◌+◌, ◌≤◌, ◌↔◌, MatchOption, length, true};
+    ghost use Rattle.std.specs.Prelude.{◌≡◌, ◌+◌, ◌≤◌, ◌↔◌, MatchOption, IfOk, IfErr, length, true};
     ghost use Rattle.bl_model.specs.declared.operation.Op.TheVariants as op;
     ghost use Rattle.bl_model.specs.Replies.{reply_of};
+    ghost use Rattle.bl_model.specs.Writes.{write_op};
     ghost use Rattle.bl_proc.specs.Parts.{op_toward};
     ghost use Rattle.bl_index.specs.Calls.{pages_of, frames_of};
     ghost use Rattle.bl_waiting.specs.Queue.{hints_of};
@@ -51,27 +52,28 @@ impl Seat {
     }
 
     /// The rows of one leaf from a key on, and where the next part begins, upwards or downwards. With a page in mind it looks at that one
-    /// first, and leaves there the one from which the way to the next part is short, if there is one. None: as for a search.
-    pub fn part(&mut self, direction: Direction, from: u64, near: &mut Option<u32>) -> Option<Reply>
+    /// first, and leaves there the one from which the way to the next part is short, if there is one. An error: as for a search.
+    pub fn part(
+        &mut self,
+        direction: Direction,
+        from: u64,
+        near: &mut Option<u32>,
+    ) -> Result<Reply, OutOfTurns>
         ensures same { IsSameSeat self.old self.new }
         ensures keeps { KeepsUpkeep self.old self.new }
-        ensures found { MatchOption result (HasRunOut self.old self.new) (λ reply. HasFound (op_toward direction from) reply self.old self.new) }
+        ensures found { IfOk result (λ reply. HasFound (op_toward direction from) reply self.old self.new) }
+        ensures runs_out { IfErr result (λ fault. HasRunOut self.old self.new) }
     {
         let turns = self.index.patience();
-        match self
-            .index
+        self.index
             .part_toward(&mut self.pass, direction, from, near, turns)
-        {
-            Ok(reply) => Some(reply),
-            Err(_) => None,
-        }
     }
 
     /// Writes a key. Before that it does upkeep, some pieces at most, and looks for room; what it has left to do waits. None: it found no room
     /// yet, or a page was another thread's. It has not been done, and nothing of it is left: it is to be made again, or not.
     pub fn write(&mut self, key: u64, write: KeyWrite) -> Option<KeyReply>
         ensures same { IsSameSeat self.old self.new }
-        ensures written { MatchOption result (HasNotWritten self.old self.new) (λ reply. HasWritten key write reply self.old self.new) }
+        ensures written { MatchOption result (HasNotWritten self.old self.new) (λ reply. HasWritten (write_op key write) key write reply self.old self.new) }
     {
         trying::try_write(
             &self.index,

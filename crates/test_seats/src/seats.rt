@@ -6,8 +6,8 @@ ghost use Rattle.bl_ffi_seats.specs.Seats.{AreOfOne};
 ghost use Rattle.bl_index_read.specs.LeafRows.{IsBelow};
 
 use bl_ffi_seats::{
-    CloseFault, Direction, ImageFault, KeyReply, KeyWrite, Next, OpenFault, Reply, Seat, close,
-    open, open_image, open_larger,
+    CloseFault, Direction, ImageFault, KeyReply, KeyWrite, Next, OpenFault, OutOfTurns, Reply, Seat,
+    close, open, open_image, open_larger,
 };
 use bl_image::image_length;
 use std::alloc::Global;
@@ -80,7 +80,7 @@ fn count_rows(seat: &mut Seat) -> u64 {
     let mut at = 0;
     let mut near = None;
     for _part in 0..MANY {
-        let Some(Reply::Rows(rows, next)) = seat.part(Direction::Up, at, &mut near) else {
+        let Ok(Reply::Rows(rows, next)) = seat.part(Direction::Up, at, &mut near) else {
             return 0;
         };
         count = count.saturating_add(rows.len() as u64);
@@ -145,9 +145,9 @@ fn a_seat_gives_back_what_was_swapped_out(rt: HostRuntime) {
 }
 
 /// Whether a part has these rows, and goes to the end of the map.
-fn is_last(part: Option<Reply>, wanted: &[(u64, u64)]) -> bool {
+fn is_last(part: Result<Reply, OutOfTurns>, wanted: &[(u64, u64)]) -> bool {
     match part {
-        Some(Reply::Rows(rows, next)) => rows.as_slice() == wanted && next == Next::End,
+        Ok(Reply::Rows(rows, next)) => rows.as_slice() == wanted && next == Next::End,
         _ => false,
     }
 }
@@ -164,7 +164,7 @@ fn a_part_has_the_rows_from_its_key_on(rt: HostRuntime) {
 fn ranged(alloc: Global, seat: &mut Seat, from: u64, to: Option<u64>) -> Vec<(u64, u64)>
     requires { IsBelow to from }
 {
-    match seat.range(alloc, from, to, 0) {
+    match seat.range(alloc, from, to, 0, 8) {
         Ok(rows) => rows,
         Err(_) => Vec::new(alloc),
     }
@@ -194,7 +194,7 @@ fn count_rows_down(seat: &mut Seat, from: u64) -> u64 {
     let mut count = 0u64;
     let mut at = from;
     for _part in 0..MANY {
-        let Some(Reply::Rows(rows, next)) = seat.part(Direction::Down, at, &mut None) else {
+        let Ok(Reply::Rows(rows, next)) = seat.part(Direction::Down, at, &mut None) else {
             return 0;
         };
         count = count.saturating_add(rows.len() as u64);
