@@ -10,11 +10,11 @@
 mod chunks;
 mod dealing;
 mod dumping;
+mod ground;
+mod growing;
 mod joining;
 mod meeting;
 mod origin;
-mod parsed_lines;
-mod section_reader;
 mod serving;
 mod session;
 mod starting;

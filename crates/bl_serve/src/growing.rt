@@ -1,0 +1,150 @@
+//! A server's own index goes on with more pages, before the lines to come lack room.
+
+ghost use Rattle.std.specs.Prelude.{◌≡◌, ℕ, ◌<◌, ◌≤◌, All, IfOk, length, vec_len};
+ghost use Rattle.bl_index.specs.Calls.{IsPassOf, pages_of, passes_of};
+ghost use Rattle.bl_serve.specs.Growing.{GoesOnLarger};
+ghost use Rattle.bl_serve.specs.Standing.{IsAtRest, Resettles};
+
+use crate::ground::Ground;
+use crate::session::{Session, Spare};
+use bl_index::{Index, Pass, Unresized};
+use bl_serve_reading::ParsedLines;
+use std::alloc::{AllocError, Global};
+
+/// So many pages at most are to be free beside those that lines may take, and a fourth of the pages of a small index: those that are retired,
+/// and not released yet, are not free.
+const BESIDE: u64 = 256;
+
+/// And so many at least.
+const LEAST_BESIDE: u64 = 8;
+
+/// A leaf that was split splits again behind so many insertions into it, at the earliest.
+const BETWEEN_SPLITS: u64 = 7;
+
+/// How many pages so many insertions may take, of an index of so many that uses so many: each of its leaves may be full. A fourth stands above
+/// leaves.
+fn wanted(insertions: u64, pages: u32, used: u64) -> u64 {
+    let splits = insertions.min(used.saturating_add(insertions / BETWEEN_SPLITS));
+    let beside = BESIDE.min(u64::from(pages / 4) + LEAST_BESIDE);
+    splits.saturating_add(splits / 4).saturating_add(beside)
+}
+
+/// So many pages, doubled until so many of them are free where so many are used, up to the most.
+fn larger(pages: u32, most: u32, used: u64, wanted: u64) -> u32
+    requires { pages ≤ most }
+    ensures { (pages ≤ result) × (result ≤ most) }
+{
+    let mut larger = pages;
+    for _ in 0..32 {
+        if u64::from(larger).saturating_sub(used) >= wanted {
+            break;
+        }
+        larger = larger.saturating_mul(2);
+    }
+    larger.clamp(pages, most)
+}
+
+/// How many pages an index of so many is to have before so many insertions, where so many are free. Where fewer than a sixteenth are, changes
+/// look long for room.
+fn pages_for(pages: u32, most: u32, free: u64, insertions: u64) -> u32
+    requires { pages ≤ most }
+    ensures { (pages ≤ result) × (result ≤ most) }
+{
+    if insertions == 0 {
+        return pages;
+    }
+    let used = u64::from(pages).saturating_sub(free);
+    let wanted = wanted(insertions, pages, used).max(u64::from(pages / 16));
+    larger(pages, most, used, wanted)
+}
+
+/// The index with so many pages. Where memory for them is refused, it is as it was, or opened again from its image.
+fn resized(
+    alloc: Global,
+    index: Index,
+    passes: Vec<Pass>,
+    pages: u32,
+) -> Result<(Index, Vec<Pass>), AllocError>
+    requires own { All (IsPassOf index) passes.items }
+    requires count { length passes.items ≡ passes_of index }
+    requires more { pages_of index ≤ pages }
+    ensures { IfOk result (λ t. GoesOnLarger index passes.items pages t.0 t.1.items) }
+{
+    let Ok(count) = u32::try_from(passes.len()) else {
+        return Err(AllocError);
+    };
+    match index.resize(alloc, passes, pages) {
+        Ok(resized) => Ok(resized),
+        Err(Unresized::Kept(index, passes, _)) => Ok((index, passes)),
+        Err(Unresized::Closed(quiet)) => match Index::open_image(alloc, quiet, count) {
+            Ok(opened) => Ok(opened),
+            Err(_) => Err(AllocError),
+        },
+    }
+}
+
+/// The index with as many pages as so many insertions may want, where it may grow, and what is known of its room then.
+fn settled<'a>(
+    alloc: Global,
+    ground: Ground<'a>,
+    passes: Vec<Pass>,
+    spare: Spare,
+    insertions: u64,
+) -> Result<(Ground<'a>, Vec<Pass>, Spare), AllocError>
+    requires some { 0 < vec_len passes }
+    requires rests { IsAtRest ground passes.items }
+    ensures count { IfOk result (λ t. vec_len t.1 ≡ vec_len passes) }
+    ensures resettles { IfOk result (λ t. Resettles ground.entry passes.items t.0 t.1.items) }
+{
+    match ground {
+        Ground::Lent(index) => Ok((Ground::Lent(index), passes, spare)),
+        Ground::Own(index, most) => {
+            let pages = index.patience();
+            let larger = pages_for(pages, most, spare.free, insertions);
+            if larger == pages || spare.is_refused {
+                return Ok((Ground::Own(index, most), passes, spare));
+            }
+            let (index, passes) = resized(alloc, index, passes, larger)?;
+            let spare = spare.behind(pages, index.patience());
+            Ok((Ground::Own(index, most), passes, spare))
+        }
+    }
+}
+
+/// The session, with room for those lines, as far as its index may grow. Nothing is known to work: all handles have given their seats back.
+pub fn with_room<'a>(
+    alloc: Global,
+    session: Session<'a>,
+    lines: &ParsedLines,
+) -> Result<Session<'a>, AllocError>
+    requires rests { IsAtRest session.ground session.passes.items }
+    ensures totals { IfOk result (λ back. back.totals ≡ session.entry.totals) }
+    ensures changes { IfOk result (λ back. back.changes ≡ session.entry.changes) }
+    ensures text { IfOk result (λ back. back.text.items ≡ session.entry.text.items) }
+    ensures resettles { IfOk result (λ back. Resettles session.entry.ground session.entry.passes.items back.ground back.passes.items) }
+{
+    let Session {
+        plan,
+        ground,
+        passes,
+        spare,
+        slots,
+        totals,
+        remarks,
+        changes,
+        text,
+    } = session;
+    let insertions = lines.insertions() as u64;
+    let (ground, passes, spare) = settled(alloc, ground, passes, spare, insertions)?;
+    Ok(Session {
+        plan,
+        ground,
+        passes,
+        spare,
+        slots,
+        totals,
+        remarks,
+        changes,
+        text,
+    })
+}
