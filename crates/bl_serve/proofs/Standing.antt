@@ -76,7 +76,7 @@ still_other (Own index most) seen old new its bound olds news s = tt
 resized_map : (old : Index) (olds : List Pass) (size : ℕ) (new : Index) (news : List Pass) → 0 < length olds → AreTogether old (seen_by olds) olds → Resizes old olds size new news → map_after (first_of new) (seen_by news) ≡ map_after (first_of old) (seen_by olds)
 resized_map old olds size new news some t r =
     ap (map_after (first_of new)) (unseen r.image size (passes_of old) new news r.reopens.begun)
-    ∙ ((λ i key. sym (r.map key) i) ∙ ap (final_map (first_map (first_of old))) (history_kept old (seen_by olds) olds r.image some t r.closes))
+    ∙ ((λ i key. r.map key i) ∙ ap (final_map (first_map (first_of old))) (history_kept old (seen_by olds) olds r.image some t r.closes))
 
 pub resettles : (old : Index) (olds : List Pass) (most size : ℕ) (new : Index) (news : List Pass) → 0 < length olds → pages_of old ≤ size → size ≤ most → Resizes old olds size new news → Resettles (Own old most) olds (Own new most) news
 resettles old olds most size new news some more few r from pages seen t = record {
@@ -91,7 +91,7 @@ resettles old olds most size new news some more few r from pages seen t = record
 -- however it went
 pub grown : (old : Index) (olds : List Pass) (most wanted : ℕ) (new : Index) (news : List Pass) → 0 < length olds → wanted ≤ most → GoesOnLarger old olds wanted new news → Resettles (Own old most) olds (Own new most) news
 grown old olds most wanted new news some few (Stays same they) from pages seen t = subst (λ (z : Index × List Pass). StandsAt from pages seen (Own z.0 most) z.1) (λ i. (sym same i, sym they i)) t
-grown old olds most wanted new news some few (Opens size more least r) = resettles old olds most size new news some more (omega (arith, few, least)) r
+grown old olds most wanted new news some few (Opens size more least r) from pages seen t = resettles old olds most size new news some more (omega (arith, few, least)) r from pages seen t
 
 -- as many passes came back
 pub as_many : (old : Index) (olds : List Pass) (wanted : ℕ) (new : Index) (news : List Pass) → length olds ≡ passes_of old → GoesOnLarger old olds wanted new news → length news ≡ length olds
