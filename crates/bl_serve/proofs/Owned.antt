@@ -1,5 +1,5 @@
 -- What a server serves on an index of its own is served from the rows that it began with, and its image is that of what was served.
-use Rattle.std.proofs.Common.{◌≡◌, ℕ, ◌≤◌, List, [], ◌++◌, refl, sym, ap, ◌∙◌, subst, arith}
+use Rattle.std.proofs.Common.{◌≡◌, ℕ, ◌<◌, ◌≤◌, List, [], ◌++◌, length, refl, sym, ap, ◌∙◌, subst, arith}
 use Rattle.std.specs.Prelude.{max, Result, IfOk}
 use Rattle.std.specs.declared.alloc.AllocError.{AllocError}
 use Rattle.bl_index.proofs.Firsts.{if_ok}
@@ -42,8 +42,8 @@ module _ (how : Sectioning) (origin : Origin) (most among : ℕ) (index : Index)
   own_map : map_in ground olds ≡ map_of b.rows
   own_map = ap (λ (z : Ground). map_in z olds) own.own ∙ (ap (map_after (first_of index)) b.unseen ∙ b.map)
 
-  pub rests_first : IsAtRest ground olds
-  rests_first = subst (λ (z : Ground). IsAtRest z olds) (sym own.own) (record { together = b.together; within = (let is = own.bound_is in omega (arith, is)) })
+  pub rests_first : 0 < length olds → IsAtRest ground olds
+  rests_first some = subst (λ (z : Ground). IsAtRest z olds) (sym own.own) (record { some = some; together = b.together; within = (let is = own.bound_is in omega (arith, is)) })
 
   pub served_from : (new : Ground) (news : List Pass) (totals : Totals) (input output : List ℕ) → ServesOn how ground olds new news totals input output → ServedFrom how origin most totals input output
   served_from new news totals input output s = record { rows = b.rows; are_rows = b.are_rows; served = subst (λ (z : (ℕ × ℕ) × Map). Served how z.0 z.1 input output totals) (λ i. (own_sizes i, own_map i)) s.served.served }

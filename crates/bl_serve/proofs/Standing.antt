@@ -58,7 +58,7 @@ chunk_goes ground done asked text olds news some h from pages seen t =
     let now : seen_by news ≡ seen_by olds ++ more = first_seen index (seen_by olds ++ more) news any h.together in
     let later : IsLegalFrom (map_in ground olds) (history_of more) = legal_rest (first_map (first_of index)) (history_of (seen_by olds)) (history_of more)
     (subst (IsLegalFrom (first_map (first_of index))) (history_append (seen_by olds) more) h.together.may_be.legal) in record {
-      rests = record { together = together_by_first index (seen_by olds ++ more) news any h.together; within = t.rests.within };
+      rests = record { some = any; together = together_by_first index (seen_by olds ++ more) news any h.together; within = t.rests.within };
       legal = subst (IsLegalFrom (first_map first)) (sym (history_append seen more)) (legal_append (first_map first) (history_of seen) (history_of more) t.legal (subst (λ (z : Map). IsLegalFrom z (history_of more)) t.map later));
       map = ap (map_after (first_of index)) now ∙ (map_append (first_of index) (seen_by olds) more ∙ (ap (λ (z : Map). final_map z (history_of more)) t.map ∙ sym (map_append first seen more)));
       still = still_more from seen more ground olds news t.still now;
@@ -80,7 +80,7 @@ resized_map old olds size new news some t r =
 
 pub resettles : (old : Index) (olds : List Pass) (most size : ℕ) (new : Index) (news : List Pass) → 0 < length olds → pages_of old ≤ size → size ≤ most → Resizes old olds size new news → Resettles (Own old most) olds (Own new most) news
 resettles old olds most size new news some more few r from pages seen t = record {
-  rests = record { together = together r.image size (passes_of old) new news r.reopens.begun; within = (let a = r.reopens.begun.pages in omega (arith, a, few)) };
+  rests = record { some = (let a = r.reopens.begun.count in let b = t.rests.together.count in omega (arith, a, b, some)); together = together r.image size (passes_of old) new news r.reopens.begun; within = (let a = r.reopens.begun.pages in omega (arith, a, few)) };
   legal = t.legal;
   map = resized_map old olds size new news some t.rests.together r ∙ t.map;
   still = still_other from seen old new most most olds news t.still;

@@ -1,5 +1,5 @@
 -- Where a server stands between two chunks of lines: its index, whose passes have met, and the map that it has come to.
-use Rattle.std.specs.Prelude.{◌≡◌, ℕ, ◌≤◌, ◌++◌, List}
+use Rattle.std.specs.Prelude.{◌≡◌, ℕ, ◌<◌, ◌≤◌, ◌++◌, List, length}
 use Rattle.bl_model.specs.Map.{Map}
 use Rattle.bl_model.specs.History.{IsLegalFrom}
 use Rattle.bl_claims.specs.Trails.{Trail, history_of}
@@ -36,6 +36,7 @@ map_in ground passes = map_after (first_of (index_in ground)) (seen_by passes)
 
 -- These are all its passes, and they have met; it has no more pages than it may have.
 pub record IsAtRest (ground : Ground) (passes : List Pass) : Type 0 where
+  pub some : 0 < length passes
   pub together : AreTogether (index_in ground) (seen_by passes) passes
   pub within : pages_of (index_in ground) ≤ most_in ground
 

@@ -1,6 +1,7 @@
 //! A chunk of a section is answered: its lines are dealt into shares, threads work on them, and all are joined.
 
-ghost use Rattle.std.specs.Prelude.{◌≡◌, ℕ, List, suc, ◌+◌, ◌<◌, ◌≤◌, ◌^◌, ◌++◌, true, false, length, flat_map, All, IfOk, IfErr, OnOk, vec_len};
+ghost use Rattle.std.specs.Vec.{vec_capacity};
+ghost use Rattle.std.specs.Prelude.{◌≡◌, ℕ, List, [], suc, ◌+◌, ◌<◌, ◌≤◌, ◌^◌, ◌++◌, true, false, length, flat_map, All, IfOk, IfErr, OnOk, vec_len};
 ghost use Rattle.bl_index.specs.Calls.{first_of, pages_of};
 ghost use Rattle.bl_map.specs.Handles.{seats_of};
 ghost use Rattle.bl_map.specs.Meetings.{IsSeated};
@@ -20,7 +21,7 @@ use crate::meeting::meet_all;
 use crate::growing::with_room;
 use crate::session::{Crew, Session, Spare, ThreadPlan};
 use bl_changes::{Changes, histories_lead};
-use bl_index::Index;
+use bl_index::{Index, Pass};
 use bl_map::{Handle, give_seats, handles_over};
 use bl_model::Watched;
 use bl_serve_lines::ServeFault;
@@ -352,6 +353,17 @@ fn free_by(handles: &[Handle<'_>]) -> u64 {
     }
 }
 
+/// The seats of handles, in the vector from which they were taken.
+fn seats_back(handles: Vec<Handle<'_>>, passes: Vec<Pass>) -> Vec<Pass>
+    requires room { vec_len passes + vec_len handles ≤ vec_capacity passes }
+    requires none { passes.items ≡ [] }
+    ensures { result.items ≡ seats_of handles.entry.items }
+{
+    let mut passes = passes;
+    give_seats(handles, &mut passes);
+    passes
+}
+
 /// Answers the lines of a chunk by all passes of the index, which have met, and lets them meet again.
 fn answer_at<'a, R: Threads + Wait + Sync, G: Gate + Sync, I: Read>(
     rt: &R,
@@ -405,7 +417,7 @@ fn answer_at<'a, R: Threads + Wait + Sync, G: Gate + Sync, I: Read>(
         text,
     } = work_chunk(rt, service, index, crew, lines, reader, ahead)?;
     let free = free_by(handles.as_slice());
-    give_seats(handles, &mut passes);
+    let passes = seats_back(handles, passes);
     Ok(Session {
         plan,
         ground,

@@ -302,7 +302,7 @@ pub fn serve<T: Threads + Wait + Sync, R: Read, W: Write, G: Gate + Sync>(
     };
     let ground = Ground::Lent(index);
     match serve_with(rt, ground, passes, reader, writer, gate, plan) {
-        Ok((summary, _, passes)) => Ok((summary.totals, passes)),
+        Ok((summary, _ground, passes)) => Ok((summary.totals, passes)),
         Err(fault) => Err(fault),
     }
 }

@@ -151,7 +151,7 @@ pub fn serve_by_plan<T: Threads + Wait + Sync, R: Read, O: Outside>(
     let (index, passes) = open_index(alloc, origin, plan.workers + plan.compressors)?;
     let ground = ground_of(index, plan.most);
     match serve_with(rt, ground, passes, reader, outside, &OpenGate, threads) {
-        Ok((summary, _, _)) => Ok(summary),
+        Ok((summary, _ground, _passes)) => Ok(summary),
         Err(fault) => Err(fault),
     }
 }

@@ -29,31 +29,31 @@ work_chunk-requires-clause-met g c κs within =
     let seats = their_seats c.index-index.result.now c.args.session.passes.items c.in_ok-handles.handles.items c.in_ok-handles.ensures.over in
     subst (λ (z : Index × List Pass). AreTogether z.0 (seen_by z.1) z.1) (λ i. (sym c.index-index.ensures i, sym seats i)) c.requires.rests.together
 
-pub give_seats-requires : goal.give_seats-requires
-give_seats-requires g c =
+pub seats_back-requires-clause-room : goal.seats_back-requires-clause-room
+seats_back-requires-clause-room g c =
     let now = c.in_ok-plan.ensures.held.2.together.count in let before = c.requires.rests.together.count in let same = ap passes_of c.index-index.ensures in
-    let long = seats_long c.in_ok-plan.handles.items in
+    let long = seats_long c.in_ok-plan.field-0.handles.items in
     let none = ap length c.in_ok-handles.ensures.taken in let room = c.in_ok-handles.ensures.room in
-    let a = c.args.session.passes.ok in let b = c.in_ok-plan.handles.ok in let d = c.handles_over.new.seats.ok in
+    let a = c.args.session.passes.ok in let b = c.in_ok-plan.field-0.handles.ok in let d = c.handles_over.new.seats.ok in
     omega (arith, now, before, same, long, none, room, a, b, d)
 
 pub returns-clause-held : goal.returns-clause-held
 returns-clause-held g c =
     let h = c.in_ok-plan.ensures.held in
     let seats = their_seats c.index-index.result.now c.args.session.passes.items c.in_ok-handles.handles.items c.in_ok-handles.ensures.over in
-    let back = c.give_seats.ensures ∙ ap (λ (z : List Pass). z ++ seats_of c.in_ok-plan.handles.items) c.in_ok-handles.ensures.taken in
+    let back = c.seats_back-passes.ensures in
     (h.0, h.1, subst (λ (z : Index × List Pass × List Pass). HoldsChunk z.0 c.args.session.totals.requests c.args.lines.now h.0 z.1 z.2) (λ i. (c.index-index.ensures i, seats i, sym back i)) h.2)
 
 pub returns-clause-noted : goal.returns-clause-noted
 returns-clause-noted g c keeps =
     let seats = their_seats c.index-index.result.now c.args.session.passes.items c.in_ok-handles.handles.items c.in_ok-handles.ensures.over in
-    let back = c.give_seats.ensures ∙ ap (λ (z : List Pass). z ++ seats_of c.in_ok-plan.handles.items) c.in_ok-handles.ensures.taken in
+    let back = c.seats_back-passes.ensures in
     subst (λ (z : List Pass × List Pass). NoteMore z.0 c.args.session.changes z.1 c.in_ok-plan.changes) (λ i. (seats i, sym back i)) (c.in_ok-plan.ensures.noted keeps)
 
 -- a pass for each handle
 pub invariant_of-result : goal.invariant_of-result
 invariant_of-result g c =
-    let back = ap length (c.give_seats.ensures ∙ ap (λ (z : List Pass). z ++ seats_of c.in_ok-plan.handles.items) c.in_ok-handles.ensures.taken) in
-    let long = seats_long c.in_ok-plan.handles.items in
-    let a = c.in_ok-plan.ensures.paired in let d = c.in_ok-plan.handles.ok in let e = c.give_seats.new.seats.ok in let few = a.0 in let both = a.1 in
-    record { some = omega (arith, back, long, few, d, e); paired = omega (arith, back, long, both, d, e); counted = ?; synced = ? }
+    let back = ap length c.seats_back-passes.ensures in
+    let long = seats_long c.in_ok-plan.field-0.handles.items in
+    let a = c.in_ok-plan.ensures.paired in let d = c.in_ok-plan.field-0.handles.ok in let e = c.seats_back-passes.result.ok in let few = a.0 in let both = a.1 in
+    record { some = omega (arith, back, long, few, d, e); paired = omega (arith, back, long, both, d, e); counted = c.in_ok-plan.field-0.counted; synced = c.in_ok-plan.field-0.synced }

@@ -17,7 +17,7 @@ returns-in_err-index-clause-serves g c = let p = err_from_is_err_and c.from_resi
     rw (p.1, p.2) (record { input = []; ahead = []; output = []; consumed = consumes_start _; wrote = appends_start _; ok = tt; fault = Unopened refl refl refl })
 
 pub serve_with-requires-clause-rests : goal.serve_with-requires-clause-rests
-serve_with-requires-clause-rests g c κs within = rests_first c.args.plan.sections c.args.origin c.args.plan.most _ c.in_ok-index.index c.ground_of-ground.result c.in_ok-index.passes.items c.in_ok-index.ensures c.ground_of-ground.ensures
+serve_with-requires-clause-rests g c κs within = rests_first c.args.plan.sections c.args.origin c.args.plan.most _ c.in_ok-index.index c.ground_of-ground.result c.in_ok-index.passes.items c.in_ok-index.ensures c.ground_of-ground.ensures (let a = c.in_ok-index.ensures.many in let d = c.requires.passes.0 in omega (arith, a, d))
 
 pub returns-in-Ok-clause-serves : goal.returns-in-Ok-clause-serves
 returns-in-Ok-clause-serves g c =
@@ -28,12 +28,12 @@ returns-in-Ok-clause-serves g c =
       output = h.output;
       consumed = h.consumed;
       wrote = h.wrote;
-      ok = (served_from c.args.plan.sections c.args.origin c.args.plan.most _ c.in_ok-index.index c.ground_of-ground.result c.in_ok-index.passes.items c.in_ok-index.ensures c.ground_of-ground.ensures c.in-Ok.field-0-1 c.in-Ok.field-0-2.items c.in-Ok.summary.totals h.input h.output s.0, s.1);
+      ok = (served_from c.args.plan.sections c.args.origin c.args.plan.most _ c.in_ok-index.index c.ground_of-ground.result c.in_ok-index.passes.items c.in_ok-index.ensures c.ground_of-ground.ensures c.in-Ok._ground c.in-Ok._passes.items c.in-Ok.summary.totals h.input h.output s.0, s.1);
       fault = tt;
     }
 
-pub returns-clause-serves : goal.returns-clause-serves
-returns-clause-serves g c =
+pub returns-in-Err-clause-serves : goal.returns-in-Err-clause-serves
+returns-in-Err-clause-serves g c =
     let h = rw c.plan_of-threads.ensures at c.serve_with.ensures.serves in
     let s = rw c.in-Err.is at h.fault in record {
       input = h.input;
@@ -69,8 +69,8 @@ returns-in-Ok-clause-any_moment g c = λ modelled rows are.
           (λ pages start. FindsOnly g.O.Outside.moment g.O.Outside.finds c.args.outside.now c.serve_with.new.outside (Survives c.args.plan.sections pages start h.0 (g.O.Outside.printed c.args.outside.now))) rows are h.2,
     )
 
-pub returns-clause-any_moment : goal.returns-clause-any_moment
-returns-clause-any_moment g c = λ modelled rows are.
+pub returns-in-Err-clause-any_moment : goal.returns-in-Err-clause-any_moment
+returns-in-Err-clause-any_moment g c = λ modelled rows are.
     let h = rw c.plan_of-threads.ensures at (c.serve_with.ensures.any_moment modelled) in (
       h.0,
       h.1,
