@@ -88,6 +88,11 @@ resettles old olds most size new news some more few r from pages seen t = record
   most = t.most;
 }
 
+-- with a larger bound too
+pub still_larger : (old : Index) (olds : List Pass) (pages most : ℕ) (new : Index) (news : List Pass) → pages ≤ most → GoesOnLarger old olds pages new news → GoesOnLarger old olds most new news
+still_larger old olds pages most new news few (Stays same they) = Stays same they
+still_larger old olds pages most new news few (Opens size more least r) = Opens size more (omega (arith, few, least)) r
+
 -- however it went
 pub grown : (old : Index) (olds : List Pass) (most wanted : ℕ) (new : Index) (news : List Pass) → 0 < length olds → wanted ≤ most → GoesOnLarger old olds wanted new news → Resettles (Own old most) olds (Own new most) news
 grown old olds most wanted new news some few (Stays same they) from pages seen t = subst (λ (z : Index × List Pass). StandsAt from pages seen (Own z.0 most) z.1) (λ i. (sym same i, sym they i)) t

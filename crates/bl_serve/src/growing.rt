@@ -1,6 +1,6 @@
 //! A server's own index goes on with more pages, before the lines to come lack room.
 
-ghost use Rattle.std.specs.Prelude.{◌≡◌, ℕ, ◌<◌, ◌≤◌, All, IfOk, length, vec_len};
+ghost use Rattle.std.specs.Prelude.{◌≡◌, ℕ, ◌≤◌, All, IfOk, length, vec_len};
 ghost use Rattle.bl_index.specs.Calls.{IsPassOf, pages_of, passes_of};
 ghost use Rattle.bl_serve.specs.Growing.{GoesOnLarger};
 ghost use Rattle.bl_serve.specs.Standing.{IsAtRest, Resettles};
@@ -44,16 +44,16 @@ fn larger(pages: u32, most: u32, used: u64, wanted: u64) -> u32
     larger.clamp(pages, most)
 }
 
-/// How many pages an index of so many is to have before so many insertions, where so many are free. Where fewer than a sixteenth are, changes
-/// look long for room.
-fn pages_for(pages: u32, most: u32, free: u64, insertions: u64) -> u32
+/// How many pages an index of so many is to have before so many insertions, with what is known of its room. Where fewer than a sixteenth are
+/// free, changes look long for room.
+fn pages_for(pages: u32, most: u32, spare: Spare, insertions: u64) -> u32
     requires { pages ≤ most }
     ensures { (pages ≤ result) × (result ≤ most) }
 {
-    if insertions == 0 {
+    if insertions == 0 || spare.is_refused {
         return pages;
     }
-    let used = u64::from(pages).saturating_sub(free);
+    let used = u64::from(pages).saturating_sub(spare.free);
     let wanted = wanted(insertions, pages, used).max(u64::from(pages / 16));
     larger(pages, most, used, wanted)
 }
@@ -83,7 +83,31 @@ fn resized(
     }
 }
 
-/// The index with as many pages as so many insertions may want, where it may grow, and what is known of its room then.
+/// The index with as many pages as so many insertions may want, up to the most, and what is known of its room then.
+fn widened(
+    alloc: Global,
+    index: Index,
+    passes: Vec<Pass>,
+    most: u32,
+    spare: Spare,
+    insertions: u64,
+) -> Result<(Index, Vec<Pass>, Spare), AllocError>
+    requires own { All (IsPassOf index) passes.items }
+    requires count { length passes.items ≡ passes_of index }
+    requires most { pages_of index ≤ most }
+    ensures { IfOk result (λ t. GoesOnLarger index passes.items most t.0 t.1.items) }
+{
+    let pages = index.patience();
+    let size = pages_for(pages, most, spare, insertions);
+    if size == pages {
+        return Ok((index, passes, spare));
+    }
+    let (index, passes) = resized(alloc, index, passes, size)?;
+    let spare = spare.behind(pages, size, index.patience());
+    Ok((index, passes, spare))
+}
+
+/// The same of the index of a server, where it may grow.
 fn settled<'a>(
     alloc: Global,
     ground: Ground<'a>,
@@ -91,21 +115,14 @@ fn settled<'a>(
     spare: Spare,
     insertions: u64,
 ) -> Result<(Ground<'a>, Vec<Pass>, Spare), AllocError>
-    requires some { 0 < vec_len passes }
-    requires rests { IsAtRest ground passes.items }
+    requires { IsAtRest ground passes.items }
     ensures count { IfOk result (λ t. vec_len t.1 ≡ vec_len passes) }
     ensures resettles { IfOk result (λ t. Resettles ground.entry passes.items t.0 t.1.items) }
 {
     match ground {
         Ground::Lent(index) => Ok((Ground::Lent(index), passes, spare)),
         Ground::Own(index, most) => {
-            let pages = index.patience();
-            let larger = pages_for(pages, most, spare.free, insertions);
-            if larger == pages || spare.is_refused {
-                return Ok((Ground::Own(index, most), passes, spare));
-            }
-            let (index, passes) = resized(alloc, index, passes, larger)?;
-            let spare = spare.behind(pages, index.patience());
+            let (index, passes, spare) = widened(alloc, index, passes, most, spare, insertions)?;
             Ok((Ground::Own(index, most), passes, spare))
         }
     }

@@ -44,11 +44,11 @@ pub struct Spare {
 }
 
 impl Spare {
-    /// Behind an attempt to have more than so many pages, after which there are so many.
-    pub fn behind(self, before: u32, pages: u32) -> Spare {
+    /// Behind an attempt to have so many pages in place of those before, after which there are so many.
+    pub fn behind(self, before: u32, wanted: u32, pages: u32) -> Spare {
         Spare {
             free: self.free.saturating_add(u64::from(pages.saturating_sub(before))),
-            is_refused: pages <= before,
+            is_refused: pages < wanted,
         }
     }
 }
