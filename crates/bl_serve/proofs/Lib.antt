@@ -18,6 +18,7 @@ pub mod Leaving
 pub mod Noting
 pub mod Led
 pub mod Surviving
+pub mod Doubling
 pub mod Standing
 pub mod Wider
 pub mod Lent

@@ -22,6 +22,7 @@ use Rattle.bl_serve.specs.declared.ground.Ground.TheVariants.{Own}
 use Rattle.bl_serve.specs.declared.origin.Origin.{Origin}
 use Rattle.bl_serve.specs.Begun.{IsBegunFrom, IsOwn}
 use Rattle.bl_serve.specs.Dumps.{DumpedFrom, HoldMapAfter}
+use Rattle.bl_serve.specs.Growing.{IsDoubled}
 use Rattle.bl_serve.specs.Holding.{ServesOn}
 use Rattle.bl_serve.specs.Origins.{HasRows, ServedFrom, StopsFrom, Stopped, size_of, sizes_of}
 use Rattle.bl_serve.specs.Serving.{seen_by}
@@ -73,7 +74,11 @@ module _ (how : Sectioning) (origin : Origin) (most among : ℕ) (index : Index)
         rows = h.rows;
         are_rows = h.are_rows;
         same = subst (λ (z : Map). SameMap z (map_of h.rows)) ends h.same;
-      } in record {
+      } in
+      let sized : (quiet : Quiet) → HoldMapAfter (first_map (first_of (index_in new))) (history_of (seen_by news)) (pages_of (index_in new), pages_of (index_in new)) quiet.image.pages.items → IsDoubled (size_of origin) (sizes_of origin most).1 (length quiet.image.pages.items) = λ quiet h.
+      let same : pages_of (index_in new) ≡ length quiet.image.pages.items = (let a = h.least in let d = h.most in omega (arith, a, d)) in
+      subst (λ (z : (ℕ × ℕ) × ℕ). IsDoubled z.0.0 z.0.1 z.1) (λ i. (own_sizes i, same i)) s.stands.sizes in record {
         from = record { rows = b.rows; are_rows = b.are_rows; served = is.0 };
+        sizes = if_ok (λ (quiet : Quiet). HoldMapAfter (first_map (first_of (index_in new))) (history_of (seen_by news)) (pages_of (index_in new), pages_of (index_in new)) quiet.image.pages.items) _ closed sized left;
         holds = if_ok _ _ closed held left;
       }

@@ -14,13 +14,14 @@ use Rattle.bl_index.specs.Calls.{first_of, pages_of, passes_of, map_after}
 use Rattle.bl_index.specs.Resized.{Resizes}
 use Rattle.bl_serve.specs.declared.ground.Ground.{Ground}
 use Rattle.bl_serve.specs.declared.ground.Ground.TheVariants.{Lent, Own}
-use Rattle.bl_serve.specs.Growing.{GoesOnLarger}
-use Rattle.bl_serve.specs.Growing.GoesOnLarger.{Stays, Opens}
+use Rattle.bl_serve.specs.Growing.{GoesOnLarger, GoesOnWith, IsDoubled}
+use Rattle.bl_serve.specs.Growing.GoesOnWith.{Stays, Returns, Opens}
 use Rattle.bl_serve.specs.Holding.{HoldsChunk}
 use Rattle.bl_serve.specs.Serving.{AreTogether, seen_by}
 use Rattle.bl_serve.specs.Standing.{GoesOn, IsAtRest, IsStill, Resettles, StandsAt, index_in, map_in, most_in, sizes_in}
 use Rattle.bl_serve_worker.proofs.Lines.{history_append}
 use Rattle.bl_serve.proofs.Beginning.{together, unseen}
+use Rattle.bl_serve.proofs.Doubling.{doubled_then, no_fewer, no_more, not_at_all}
 use Rattle.bl_serve.proofs.Holding.{first_seen, together_by_first}
 use Rattle.bl_serve.proofs.Leaving.{history_kept}
 
@@ -32,7 +33,7 @@ still_first (Own index most) passes = tt
 
 -- it has come from itself
 pub stands_first : (ground : Ground) (passes : List Pass) → IsAtRest ground passes → StandsAt ground (sizes_in ground) (seen_by passes) ground passes
-stands_first ground passes r = record { rests = r; legal = r.together.may_be.legal; map = refl; still = still_first ground passes; least = omega arith; most = refl }
+stands_first ground passes r = record { rests = r; legal = r.together.may_be.legal; map = refl; still = still_first ground passes; sizes = not_at_all (pages_of (index_in ground)) (most_in ground); least = omega arith; most = refl }
 
 -- as many pages as there are at least are no more than at most
 pub some_between : (from : Ground) (pages : ℕ × ℕ) (seen : Trail) (ground : Ground) (passes : List Pass) → StandsAt from pages seen ground passes → pages.0 ≤ pages.1
@@ -62,6 +63,7 @@ chunk_goes ground done asked text olds news some h from pages seen t =
       legal = subst (IsLegalFrom (first_map first)) (sym (history_append seen more)) (legal_append (first_map first) (history_of seen) (history_of more) t.legal (subst (λ (z : Map). IsLegalFrom z (history_of more)) t.map later));
       map = ap (map_after (first_of index)) now ∙ (map_append (first_of index) (seen_by olds) more ∙ (ap (λ (z : Map). final_map z (history_of more)) t.map ∙ sym (map_append first seen more)));
       still = still_more from seen more ground olds news t.still now;
+      sizes = t.sizes;
       least = t.least;
       most = t.most;
     }
@@ -78,30 +80,39 @@ resized_map old olds size new news some t r =
     ap (map_after (first_of new)) (unseen r.image size (passes_of old) new news r.reopens.begun)
     ∙ ((λ i key. r.map key i) ∙ ap (final_map (first_map (first_of old))) (history_kept old (seen_by olds) olds r.image some t r.closes))
 
-pub resettles : (old : Index) (olds : List Pass) (most size : ℕ) (new : Index) (news : List Pass) → 0 < length olds → pages_of old ≤ size → size ≤ most → Resizes old olds size new news → Resettles (Own old most) olds (Own new most) news
-resettles old olds most size new news some more few r from pages seen t = record {
-  rests = record { some = (let a = r.reopens.begun.count in let b = t.rests.together.count in omega (arith, a, b, some)); together = together r.image size (passes_of old) new news r.reopens.begun; within = (let a = r.reopens.begun.pages in omega (arith, a, few)) };
-  legal = t.legal;
-  map = resized_map old olds size new news some t.rests.together r ∙ t.map;
-  still = still_other from seen old new most most olds news t.still;
-  least = (let a = t.least in let b = r.reopens.begun.pages in omega (arith, a, b, more));
-  most = t.most;
-}
-
--- with a larger bound too
-pub still_larger : (old : Index) (olds : List Pass) (pages most : ℕ) (new : Index) (news : List Pass) → pages ≤ most → GoesOnLarger old olds pages new news → GoesOnLarger old olds most new news
-still_larger old olds pages most new news few (Stays same they) = Stays same they
-still_larger old olds pages most new news few (Opens size more least r) = Opens size more (omega (arith, few, least)) r
+pub resettles : (old : Index) (olds : List Pass) (most size : ℕ) (new : Index) (news : List Pass) → IsDoubled (pages_of old) most size → Resizes old olds size new news → Resettles (Own old most) olds (Own new most) news
+resettles old olds most size new news d r from pages seen t =
+    let is = r.reopens.begun.pages in let more = no_fewer (pages_of old) most size t.rests.within d in let few = no_more (pages_of old) most size t.rests.within d in record {
+      rests = record {
+        some = (let a = r.reopens.begun.count in let b = t.rests.together.count in let some = t.rests.some in omega (arith, a, b, some));
+        together = together r.image size (passes_of old) new news r.reopens.begun;
+        within = omega (arith, is, few);
+      };
+      legal = t.legal;
+      map = resized_map old olds size new news t.rests.some t.rests.together r ∙ t.map;
+      still = still_other from seen old new most most olds news t.still;
+      sizes = doubled_then pages.0 pages.1 (pages_of old) (pages_of new) t.sizes (subst (λ (z : ℕ × ℕ). IsDoubled (pages_of old) z.0 z.1) (λ i. (t.most i, sym is i)) d);
+      least = (let a = t.least in omega (arith, a, is, more));
+      most = t.most;
+    }
 
 -- however it went
-pub grown : (old : Index) (olds : List Pass) (most wanted : ℕ) (new : Index) (news : List Pass) → 0 < length olds → wanted ≤ most → GoesOnLarger old olds wanted new news → Resettles (Own old most) olds (Own new most) news
-grown old olds most wanted new news some few (Stays same they) from pages seen t = subst (λ (z : Index × List Pass). StandsAt from pages seen (Own z.0 most) z.1) (λ i. (sym same i, sym they i)) t
-grown old olds most wanted new news some few (Opens size more least r) from pages seen t = resettles old olds most size new news some more (omega (arith, few, least)) r from pages seen t
+grows : (old : Index) (olds : List Pass) (most size : ℕ) (new : Index) (news : List Pass) → IsDoubled (pages_of old) most size → GoesOnWith old olds size new news → Resettles (Own old most) olds (Own new most) news
+grows old olds most size new news d (Stays same they) from pages seen t = subst (λ (z : Index × List Pass). StandsAt from pages seen (Own z.0 most) z.1) (λ i. (sym same i, sym they i)) t
+grows old olds most size new news d (Returns r) from pages seen t = resettles old olds most (pages_of old) new news (not_at_all (pages_of old) most) r from pages seen t
+grows old olds most size new news d (Opens r) from pages seen t = resettles old olds most size new news d r from pages seen t
+
+pub grown : (old : Index) (olds : List Pass) (most : ℕ) (new : Index) (news : List Pass) → GoesOnLarger old olds most new news → Resettles (Own old most) olds (Own new most) news
+grown old olds most new news g = grows old olds most g.size new news g.grew g.goes
 
 -- as many passes came back
-pub as_many : (old : Index) (olds : List Pass) (wanted : ℕ) (new : Index) (news : List Pass) → length olds ≡ passes_of old → GoesOnLarger old olds wanted new news → length news ≡ length olds
-as_many old olds wanted new news count (Stays same they) = ap length they
-as_many old olds wanted new news count (Opens size more least r) = r.reopens.begun.count ∙ sym count
+back : (old : Index) (olds : List Pass) (size : ℕ) (new : Index) (news : List Pass) → length olds ≡ passes_of old → GoesOnWith old olds size new news → length news ≡ length olds
+back old olds size new news count (Stays same they) = ap length they
+back old olds size new news count (Returns r) = r.reopens.begun.count ∙ sym count
+back old olds size new news count (Opens r) = r.reopens.begun.count ∙ sym count
+
+pub as_many : (old : Index) (olds : List Pass) (most : ℕ) (new : Index) (news : List Pass) → length olds ≡ passes_of old → GoesOnLarger old olds most new news → length news ≡ length olds
+as_many old olds most new news count g = back old olds g.size new news count g.goes
 
 -- ---- what was noted
 

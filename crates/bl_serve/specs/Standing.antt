@@ -9,6 +9,7 @@ use Rattle.bl_index.specs.declared.index.Pass.{Pass}
 use Rattle.bl_index.specs.Calls.{first_of, pages_of, map_after}
 use Rattle.bl_serve.specs.declared.ground.Ground.{Ground}
 use Rattle.bl_serve.specs.declared.ground.Ground.TheVariants.{Lent, Own}
+use Rattle.bl_serve.specs.Growing.{IsDoubled}
 use Rattle.bl_serve.specs.Serving.{AreTogether, seen_by}
 
 -- the index on which a server works
@@ -47,12 +48,13 @@ IsStill (Own index most) seen (Own now its) passes = Unit {0}
 IsStill from seen ground passes = ⊥
 
 -- A server has come here from there by what that trail tells, which may be that of one index behind that of another: it is legal from the map at the
--- start, and led to the map that the index has.
+-- start, and led to the map that the index has. Its pages were doubled some times.
 pub record StandsAt (from : Ground) (pages : ℕ × ℕ) (seen : Trail) (ground : Ground) (passes : List Pass) : Type 0 where
   pub rests : IsAtRest ground passes
   pub legal : IsLegalFrom (first_map (first_of (index_in from))) (history_of seen)
   pub map : map_in ground passes ≡ map_after (first_of (index_in from)) seen
   pub still : IsStill from seen ground passes
+  pub sizes : IsDoubled pages.0 pages.1 (pages_of (index_in ground))
   pub least : pages.0 ≤ pages_of (index_in ground)
   pub most : most_in ground ≡ pages.1
 

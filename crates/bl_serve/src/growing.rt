@@ -1,8 +1,8 @@
 //! A server's own index goes on with more pages, before the lines to come lack room.
 
-ghost use Rattle.std.specs.Prelude.{◌≡◌, ℕ, ◌≤◌, All, IfOk, length, vec_len};
-ghost use Rattle.bl_index.specs.Calls.{IsPassOf, pages_of, passes_of};
-ghost use Rattle.bl_serve.specs.Growing.{GoesOnLarger};
+ghost use Rattle.std.specs.Prelude.{◌≡◌, All, IfOk, length, vec_len};
+ghost use Rattle.bl_index.specs.Calls.{IsPassOf, passes_of};
+ghost use Rattle.bl_serve.specs.Growing.{GoesOnLarger, GoesOnWith, IsDoubled};
 ghost use Rattle.bl_serve.specs.Standing.{IsAtRest, Resettles};
 
 use crate::ground::Ground;
@@ -21,40 +21,51 @@ const LEAST_BESIDE: u64 = 8;
 /// A leaf that was split splits again behind so many insertions into it, at the earliest.
 const BETWEEN_SPLITS: u64 = 7;
 
-/// How many pages so many insertions may take, of an index of so many that uses so many: each of its leaves may be full. A fourth stands above
-/// leaves.
+/// How many pages are to be free before so many insertions into an index of so many that uses so many: each of its leaves may be full. A fourth
+/// stands above leaves. Where fewer than a sixteenth are free, changes look long for room.
 fn wanted(insertions: u64, pages: u32, used: u64) -> u64 {
+    if insertions == 0 {
+        return 0;
+    }
     let splits = insertions.min(used.saturating_add(insertions / BETWEEN_SPLITS));
     let beside = BESIDE.min(u64::from(pages / 4) + LEAST_BESIDE);
-    splits.saturating_add(splits / 4).saturating_add(beside)
+    let pages_taken = splits.saturating_add(splits / 4).saturating_add(beside);
+    pages_taken.max(u64::from(pages / 16))
 }
 
-/// So many pages, doubled until so many of them are free where so many are used, up to the most.
+/// Twice as many pages, as far as there may be so many, where fewer are free than are wanted while so many are used; else as many.
+fn once_larger(pages: u32, most: u32, used: u64, wanted: u64) -> u32
+    ensures { IsDoubled pages most result }
+{
+    let free = u64::from(pages).saturating_sub(used);
+    if free < wanted {
+        pages.saturating_mul(2).min(most)
+    } else {
+        pages
+    }
+}
+
+/// So many pages, doubled until as many are free as are wanted while so many are used, as far as there may be so many.
 fn larger(pages: u32, most: u32, used: u64, wanted: u64) -> u32
-    requires { pages ≤ most }
-    ensures { (pages ≤ result) × (result ≤ most) }
+    ensures { IsDoubled pages most result }
 {
     let mut larger = pages;
     for _ in 0..32 {
-        if u64::from(larger).saturating_sub(used) >= wanted {
-            break;
-        }
-        larger = larger.saturating_mul(2);
+        larger = once_larger(larger, most, used, wanted);
     }
-    larger.clamp(pages, most)
+    larger
 }
 
-/// How many pages an index of so many is to have before so many insertions, with what is known of its room. Where fewer than a sixteenth are
-/// free, changes look long for room.
+/// How many pages an index of so many is to have before so many insertions, with what is known of its room.
 fn pages_for(pages: u32, most: u32, spare: Spare, insertions: u64) -> u32
-    requires { pages ≤ most }
-    ensures { (pages ≤ result) × (result ≤ most) }
+    ensures { IsDoubled pages most result }
 {
-    if insertions == 0 || spare.is_refused {
-        return pages;
-    }
     let used = u64::from(pages).saturating_sub(spare.free);
-    let wanted = wanted(insertions, pages, used).max(u64::from(pages / 16));
+    let wanted = if spare.is_refused {
+        0
+    } else {
+        wanted(insertions, pages, used)
+    };
     larger(pages, most, used, wanted)
 }
 
@@ -67,8 +78,7 @@ fn resized(
 ) -> Result<(Index, Vec<Pass>), AllocError>
     requires own { All (IsPassOf index) passes.items }
     requires count { length passes.items ≡ passes_of index }
-    requires more { pages_of index ≤ pages }
-    ensures { IfOk result (λ t. GoesOnLarger index passes.items pages t.0 t.1.items) }
+    ensures { IfOk result (λ t. GoesOnWith index passes.items pages t.0 t.1.items) }
 {
     let Ok(count) = u32::try_from(passes.len()) else {
         return Err(AllocError);
@@ -94,7 +104,6 @@ fn widened(
 ) -> Result<(Index, Vec<Pass>, Spare), AllocError>
     requires own { All (IsPassOf index) passes.items }
     requires count { length passes.items ≡ passes_of index }
-    requires most { pages_of index ≤ most }
     ensures { IfOk result (λ t. GoesOnLarger index passes.items most t.0 t.1.items) }
 {
     let pages = index.patience();

@@ -13,9 +13,6 @@ widened-requires-clause-own c =
 pub widened-requires-clause-count : goal.widened-requires-clause-count
 widened-requires-clause-count c = let r = subst (λ (z : Ground). IsAtRest z c.args.passes.items) c.in-Own.is c.requires in r.together.count
 
-pub widened-requires-clause-most : goal.widened-requires-clause-most
-widened-requires-clause-most c = let r = subst (λ (z : Ground). IsAtRest z c.args.passes.items) c.in-Own.is c.requires in r.within
-
 pub returns-in-Lent-clause-resettles : goal.returns-in-Lent-clause-resettles
 returns-in-Lent-clause-resettles c from pages seen t = subst (λ (z : Ground). StandsAt from pages seen z c.args.passes.items) c.in-Lent.is t
 
@@ -28,4 +25,4 @@ returns-in-Own-clause-count c =
 pub returns-in-Own-clause-resettles : goal.returns-in-Own-clause-resettles
 returns-in-Own-clause-resettles c from pages seen t =
     let at = subst (λ (z : Ground). StandsAt from pages seen z c.args.passes.items) c.in-Own.is t in
-    grown c.in-Own.index c.args.passes.items c.in-Own.most c.in-Own.most c.in_ok-index.index c.in_ok-index.passes.items at.rests.some (omega arith) c.in_ok-index.ensures from pages seen at
+    grown c.in-Own.index c.args.passes.items c.in-Own.most c.in_ok-index.index c.in_ok-index.passes.items c.in_ok-index.ensures from pages seen at
