@@ -16,9 +16,9 @@ ghost use Rattle.bl_serve.specs.Serving.{IsInside};
 ghost use Rattle.bl_serve.specs.Standing.{IsAtRest, index_in, map_in, sizes_in};
 
 use crate::dealing::{deal, shares_for};
+use crate::growing::with_room;
 use crate::joining::join_outputs;
 use crate::meeting::meet_all;
-use crate::growing::with_room;
 use crate::session::{Crew, Session, Spare, ThreadPlan};
 use bl_changes::{Changes, histories_lead};
 use bl_index::{Index, Pass};

@@ -47,7 +47,9 @@ impl Spare {
     /// Behind an attempt to have so many pages in place of those before, after which there are so many.
     pub fn behind(self, before: u32, wanted: u32, pages: u32) -> Spare {
         Spare {
-            free: self.free.saturating_add(u64::from(pages.saturating_sub(before))),
+            free: self
+                .free
+                .saturating_add(u64::from(pages.saturating_sub(before))),
             is_refused: pages < wanted,
         }
     }

@@ -53,8 +53,11 @@ returns-in-Ok-clause-serves g c =
       output = h.output;
       consumed = h.consumed;
       wrote = h.wrote;
-      ok = (served_image c.args.plan.sections c.args.origin c.args.plan.most _ c.in_ok-index.index c.ground_of-ground.result c.in_ok-index.passes.items c.in_ok-index.ensures c.ground_of-ground.ensures c.in-Ok.ground c.in-Ok.passes.items c.in-Ok.summary.totals c.shut.result h.input h.output s.0
-          (subst (λ (z : Index). Leaves (first_map (first_of z)) (history_of (seen_by c.in-Ok.passes.items)) (pages_of z, pages_of z) c.shut.result) c.own_index.ensures c.shut.ensures), s.1);
+      ok = (
+        served_image c.args.plan.sections c.args.origin c.args.plan.most _ c.in_ok-index.index c.ground_of-ground.result c.in_ok-index.passes.items c.in_ok-index.ensures c.ground_of-ground.ensures c.in-Ok.ground c.in-Ok.passes.items c.in-Ok.summary.totals c.shut.result h.input h.output s.0
+            (subst (λ (z : Index). Leaves (first_map (first_of z)) (history_of (seen_by c.in-Ok.passes.items)) (pages_of z, pages_of z) c.shut.result) c.own_index.ensures c.shut.ensures),
+        s.1,
+      );
       fault = tt;
     }
 

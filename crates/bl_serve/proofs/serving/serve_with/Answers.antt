@@ -51,8 +51,11 @@ returns-clause-serves g c =
       output = h.output;
       consumed = h.consumed;
       wrote = h.wrote;
-      ok = (subst (λ (z : Ground × List Pass × Totals). ServesOn c.args.plan.sections z.0 z.1 c.in_ok-session.session.ground c.in_ok-session.session.passes.items z.2 h.input h.output)
-          (λ i. (c.in_ok-fresh.ensures.ground i, c.in_ok-fresh.ensures.passes i, sym c.summed_up-summary.ensures i)) h.ok.0, h.ok.1);
+      ok = (
+        subst (λ (z : Ground × List Pass × Totals). ServesOn c.args.plan.sections z.0 z.1 c.in_ok-session.session.ground c.in_ok-session.session.passes.items z.2 h.input h.output)
+            (λ i. (c.in_ok-fresh.ensures.ground i, c.in_ok-fresh.ensures.passes i, sym c.summed_up-summary.ensures i)) h.ok.0,
+        h.ok.1,
+      );
       fault = tt;
     }
 
@@ -82,12 +85,18 @@ serve_sections-requires-clause-log g c κs within = λ modelled.
 
 pub returns-in_err-session-clause-any_moment : goal.returns-in_err-session-clause-any_moment
 returns-in_err-session-clause-any_moment g c = λ modelled.
-    let h = c.serve_sections.ensures.any_moment modelled in
-    (h.0, h.1, subst (λ (z : Ground × List Pass). FindsOnly g.O.Outside.moment g.O.Outside.finds c.args.outside.now c.serve_sections.new.outside (Survives c.args.plan.sections (sizes_in z.0) (map_in z.0 z.1) h.0 (g.O.Outside.printed c.args.outside.now)))
-    (λ i. (c.in_ok-fresh.ensures.ground i, c.in_ok-fresh.ensures.passes i)) h.2)
+    let h = c.serve_sections.ensures.any_moment modelled in (
+      h.0,
+      h.1,
+      subst (λ (z : Ground × List Pass). FindsOnly g.O.Outside.moment g.O.Outside.finds c.args.outside.now c.serve_sections.new.outside (Survives c.args.plan.sections (sizes_in z.0) (map_in z.0 z.1) h.0 (g.O.Outside.printed c.args.outside.now)))
+          (λ i. (c.in_ok-fresh.ensures.ground i, c.in_ok-fresh.ensures.passes i)) h.2,
+    )
 
 pub returns-clause-any_moment : goal.returns-clause-any_moment
 returns-clause-any_moment g c = λ modelled.
-    let h = c.serve_sections.ensures.any_moment modelled in
-    (h.0, h.1, subst (λ (z : Ground × List Pass). FindsOnly g.O.Outside.moment g.O.Outside.finds c.args.outside.now c.serve_sections.new.outside (Survives c.args.plan.sections (sizes_in z.0) (map_in z.0 z.1) h.0 (g.O.Outside.printed c.args.outside.now)))
-    (λ i. (c.in_ok-fresh.ensures.ground i, c.in_ok-fresh.ensures.passes i)) h.2)
+    let h = c.serve_sections.ensures.any_moment modelled in (
+      h.0,
+      h.1,
+      subst (λ (z : Ground × List Pass). FindsOnly g.O.Outside.moment g.O.Outside.finds c.args.outside.now c.serve_sections.new.outside (Survives c.args.plan.sections (sizes_in z.0) (map_in z.0 z.1) h.0 (g.O.Outside.printed c.args.outside.now)))
+          (λ i. (c.in_ok-fresh.ensures.ground i, c.in_ok-fresh.ensures.passes i)) h.2,
+    )
