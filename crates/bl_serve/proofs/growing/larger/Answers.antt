@@ -5,7 +5,7 @@ pub loop-init : goal.loop-init
 loop-init c = not_at_all c.args.pages c.args.most
 
 pub loop-preserved : goal.loop-preserved
-loop-preserved c = doubled_then c.args.pages c.args.most c.loop.larger c.once_larger.result c.loop.invariant c.once_larger.ensures
+loop-preserved c = doubled_then c.args.pages c.args.most c.loop.larger c.once_larger-larger.result c.loop.invariant c.once_larger-larger.ensures
 
 pub returns : goal.returns
 returns c = c.loop.invariant

@@ -16,13 +16,13 @@ widened-requires-clause-count c = let r = subst (λ (z : Ground). IsAtRest z c.a
 pub returns-in-Lent-clause-resettles : goal.returns-in-Lent-clause-resettles
 returns-in-Lent-clause-resettles c from pages seen t = subst (λ (z : Ground). StandsAt from pages seen z c.args.passes.items) c.in-Lent.is t
 
-pub returns-in-Own-clause-count : goal.returns-in-Own-clause-count
-returns-in-Own-clause-count c =
+pub returns-in_ok-index-in-Own-clause-count : goal.returns-in_ok-index-in-Own-clause-count
+returns-in_ok-index-in-Own-clause-count c =
     let r = subst (λ (z : Ground). IsAtRest z c.args.passes.items) c.in-Own.is c.requires in
     let many = as_many c.in-Own.index c.args.passes.items c.in-Own.most c.in_ok-index.index c.in_ok-index.passes.items r.together.count c.in_ok-index.ensures in
     let a = c.args.passes.ok in let b = c.in_ok-index.passes.ok in omega (arith, many, a, b)
 
-pub returns-in-Own-clause-resettles : goal.returns-in-Own-clause-resettles
-returns-in-Own-clause-resettles c from pages seen t =
+pub returns-in_ok-index-in-Own-clause-resettles : goal.returns-in_ok-index-in-Own-clause-resettles
+returns-in_ok-index-in-Own-clause-resettles c from pages seen t =
     let at = subst (λ (z : Ground). StandsAt from pages seen z c.args.passes.items) c.in-Own.is t in
     grown c.in-Own.index c.args.passes.items c.in-Own.most c.in_ok-index.index c.in_ok-index.passes.items c.in_ok-index.ensures from pages seen at
