@@ -19,10 +19,10 @@ returns-in-Lent-clause-resettles c from pages seen t = subst (λ (z : Ground). S
 pub returns-in_ok-index-in-Own-clause-count : goal.returns-in_ok-index-in-Own-clause-count
 returns-in_ok-index-in-Own-clause-count c =
     let r = subst (λ (z : Ground). IsAtRest z c.args.passes.items) c.in-Own.is c.requires in
-    let many = as_many c.in-Own.index c.args.passes.items c.in-Own.most c.in_ok-index.index c.in_ok-index.passes.items r.together.count c.in_ok-index.ensures in
-    let a = c.args.passes.ok in let b = c.in_ok-index.passes.ok in omega (arith, many, a, b)
+    let many = as_many c.in-Own.index c.args.passes.items c.in-Own.most c.in_ok-index-in-Own.index c.in_ok-index-in-Own.passes.items r.together.count c.in_ok-index-in-Own.ensures in
+    let a = c.args.passes.ok in let b = c.in_ok-index-in-Own.passes.ok in omega (arith, many, a, b)
 
 pub returns-in_ok-index-in-Own-clause-resettles : goal.returns-in_ok-index-in-Own-clause-resettles
 returns-in_ok-index-in-Own-clause-resettles c from pages seen t =
     let at = subst (λ (z : Ground). StandsAt from pages seen z c.args.passes.items) c.in-Own.is t in
-    grown c.in-Own.index c.args.passes.items c.in-Own.most c.in_ok-index.index c.in_ok-index.passes.items c.in_ok-index.ensures from pages seen at
+    grown c.in-Own.index c.args.passes.items c.in-Own.most c.in_ok-index-in-Own.index c.in_ok-index-in-Own.passes.items c.in_ok-index-in-Own.ensures from pages seen at
