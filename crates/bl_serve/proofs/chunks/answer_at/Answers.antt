@@ -48,7 +48,7 @@ pub returns-clause-noted : goal.returns-clause-noted
 returns-clause-noted g c keeps =
     let seats = their_seats c.index-index.result.now c.args.session.passes.items c.in_ok-handles.handles.items c.in_ok-handles.ensures.over in
     let back = c.seats_back-passes.ensures in
-    subst (λ (z : List Pass × List Pass). NoteMore z.0 c.args.session.changes z.1 c.in_ok-plan.changes) (λ i. (seats i, sym back i)) (c.in_ok-plan.ensures.noted keeps)
+    subst (λ (z : List Pass × List Pass). NoteMore z.0 c.args.session.changes z.1 c.in_ok-plan.field-0.changes) (λ i. (seats i, sym back i)) (c.in_ok-plan.ensures.noted keeps)
 
 -- a pass for each handle
 pub invariant_of-result : goal.invariant_of-result
