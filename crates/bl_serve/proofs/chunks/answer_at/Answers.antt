@@ -29,8 +29,8 @@ work_chunk-requires-clause-met g c κs within =
     let seats = their_seats c.index-index.result.now c.args.session.passes.items c.in_ok-handles.handles.items c.in_ok-handles.ensures.over in
     subst (λ (z : Index × List Pass). AreTogether z.0 (seen_by z.1) z.1) (λ i. (sym c.index-index.ensures i, sym seats i)) c.requires.rests.together
 
-pub seats_back-requires-clause-room : goal.seats_back-requires-clause-room
-seats_back-requires-clause-room g c =
+pub seats_back-passes-requires-clause-room : goal.seats_back-passes-requires-clause-room
+seats_back-passes-requires-clause-room g c =
     let now = c.in_ok-plan.ensures.held.2.together.count in let before = c.requires.rests.together.count in let same = ap passes_of c.index-index.ensures in
     let long = seats_long c.in_ok-plan.field-0.handles.items in
     let none = ap length c.in_ok-handles.ensures.taken in let room = c.in_ok-handles.ensures.room in
