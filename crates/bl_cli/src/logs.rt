@@ -1,10 +1,11 @@
 //! The log of a folder: it is read or made by the command `log`, and kept by a server.
 
-ghost use Rattle.std.specs.Prelude.{◌≤◌, ◌^◌, IfOk};
+ghost use Rattle.std.specs.Prelude.{IfOk};
 ghost use Rattle.bl_serve_lines.specs.Options.{AreWithin};
 ghost use Rattle.bl_serve.specs.Origins.{HasPages};
 
 use crate::{Counts, Output, end_serving, origin_of, output, say_counts, serve_from};
+use bl_check::Quiet;
 use bl_cli_options::{LogAction, Server};
 use bl_cli_streams::{Piped, ScriptFile};
 use bl_load::{LoadFault, image_of, rows_of};
@@ -13,6 +14,8 @@ use bl_log_files::{
 };
 use bl_model::Watched;
 use bl_serve::{Origin, ServeFault};
+use bl_serve_lines::ServeOptions;
+use std::alloc::Global;
 use std::io::Printer;
 use std::process::ExitCode;
 use std::sync::Wait;
@@ -74,25 +77,46 @@ fn fail(rt: &HostRuntime, fault: LogError) -> ExitCode {
     end(rt, Err(fault), output(rt))
 }
 
-/// What the rows of a log begin an index with, of so many pages.
+/// An image of rows with so many pages, doubled up to the most until the rows have room.
+fn image_within(
+    alloc: Global,
+    rows: &[(u64, u64)],
+    pages: u32,
+    most: u32,
+) -> Result<Quiet, LoadFault> {
+    let mut pages = pages;
+    for _ in 0..32 {
+        if pages >= most {
+            break;
+        }
+        match image_of(alloc, rows, pages, FILL) {
+            Err(LoadFault::Room) => pages = pages.saturating_mul(2).min(most),
+            other => return other,
+        }
+    }
+    image_of(alloc, rows, pages, FILL)
+}
+
+/// What the rows of a log begin an index with, of as many pages as are asked for, or as the rows need where it may grow.
 fn origin_of_rows(
     rt: &HostRuntime,
     folder: &str,
     rows: &[(u64, u64)],
-    pages: u32,
+    options: ServeOptions,
 ) -> Result<Origin, LogError>
-    requires { (4 ≤ pages) × (pages ≤ 2 ^ 28) }
+    requires { AreWithin options }
     ensures { IfOk result HasPages }
 {
+    let ServeOptions { pages, most, .. } = options;
     if rows.is_empty() {
         return Ok(Origin::Empty(pages));
     }
     let (alloc, count) = (rt.alloc(), rows.len());
-    match image_of(alloc, rows, pages, FILL) {
+    match image_within(alloc, rows, pages, most) {
         Ok(quiet) => Ok(Origin::Image(quiet)),
         Err(LoadFault::Memory) => Err(LogError::Memory),
         Err(_) => Err(LogError::Log(format!(in alloc;
-            "{folder}/log: has {count} rows, for which {pages} pages are too few"
+            "{folder}/log: has {count} rows, for which {most} pages are too few"
         )?)),
     }
 }
@@ -109,7 +133,7 @@ fn begin(
 {
     let (alloc, pages) = (rt.alloc(), server.options.pages);
     if server.image.is_none() {
-        return match origin_of_rows(rt, folder, log.rows.as_slice(), pages) {
+        return match origin_of_rows(rt, folder, log.rows.as_slice(), server.options) {
             Ok(origin) => Ok((origin, Vec::new(alloc))),
             Err(fault) => Err(fail(rt, fault)),
         };

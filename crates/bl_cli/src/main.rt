@@ -192,7 +192,8 @@ pub(crate) struct Counts {
 fn say_wanted(rt: &HostRuntime, server: &Server)
     requires { AreWithin server.now.options }
 {
-    if server.image.is_none() {
+    // What one that grows takes, and has taken, is not known here.
+    if server.options.pages == server.options.most {
         let threads = server.options.workers + server.options.compressors;
         let line = index_line(rt.alloc(), server.options.pages, threads);
         say(rt, line.map(Some));
@@ -231,7 +232,13 @@ pub(crate) fn end_serving(
 pub(crate) fn say_counts(rt: &HostRuntime, server: &Server, counts: &Counts) {
     let alloc = rt.alloc();
     let Summary { totals, remarks } = counts.summary;
-    let (norooms, pages) = (remarks.norooms, server.options.pages);
+    let (norooms, most) = (remarks.norooms, server.options.most);
+    // An image has pages of its own.
+    let pages = if server.image.is_some() {
+        0
+    } else {
+        server.options.pages
+    };
     if let Some(first) = remarks.first_malformed {
         let line = malformed_line(alloc, totals.malformed, first);
         say(rt, line.map(Some));
@@ -243,7 +250,7 @@ pub(crate) fn say_counts(rt: &HostRuntime, server: &Server, counts: &Counts) {
         let line = stats_line(alloc, &totals, norooms, counts.usage);
         say(rt, line.map(Some));
     } else if norooms > 0 {
-        let line = noroom_line(alloc, norooms, pages, server.image.is_some());
+        let line = noroom_line(alloc, norooms, pages, most);
         say(rt, line.map(Some));
     }
 }
@@ -257,6 +264,7 @@ fn plan_of(server: &Server) -> ServePlan
         workers: server.options.workers,
         compressors: server.options.compressors,
         sections: server.sections,
+        most: server.options.most,
     }
 }
 

@@ -16,7 +16,7 @@ use std::alloc::{AllocError, Global};
 /// A server that the command line asks for.
 #[derive(Debug, PartialEq, Eq, Drop)]
 pub struct Server {
-    /// Its options. With an image their pages say nothing.
+    /// Its options. With an image it begins with the pages of that.
     pub options: ServeOptions,
     /// The file of the image that it begins with; without one it begins without rows.
     pub image: Option<String>,
@@ -67,7 +67,15 @@ fn pages_option<'a>(alloc: Global) -> Arg<'a> {
         .value_name("N")
         .help("Pages of the index, 4 to 65536")
         .value_parser(value_parser!(u32).range(4..=65536))
-        .default_value("1024")
+}
+
+/// Up to how many pages the index grows.
+fn most_option<'a>(alloc: Global) -> Arg<'a> {
+    Arg::new(alloc, "most")
+        .long("most")
+        .value_name("N")
+        .help("Pages up to which the index grows, 4 to 268435456")
+        .value_parser(value_parser!(u32).range(4..=268435456))
 }
 
 /// How many pages a large index has.
@@ -151,6 +159,7 @@ fn with_pages_and_workers<'a>(
     command
         .arg(pages_option(alloc))?
         .arg(large)?
+        .arg(most_option(alloc))?
         .arg(workers_option(alloc))
 }
 
@@ -235,6 +244,10 @@ fn server_of(alloc: Global, found: &ArgMatches, log: Option<String>) -> Result<S
         Some(pages) => options.having_large(pages),
         None => options,
     };
+    let options = match found.get_one::<u32>("most") {
+        Some(most) => options.growing_to(most),
+        None => options,
+    };
     let image = text_of(alloc, found, "image")?;
     let stats = found.get_flag("stats");
     Ok(Server {
@@ -267,7 +280,7 @@ fn load_command<'a>(alloc: Global) -> Result<Command<'a>, AllocError> {
         .about("Makes an image of rows from standard input")
         .after_help(ABOUT_LOAD)
         .arg(file)?
-        .arg(pages_option(alloc))?
+        .arg(pages_option(alloc).default_value("1024"))?
         .arg(large)?
         .arg(fill_option(alloc))
 }

@@ -50,19 +50,22 @@ each line is answered before the next one is read, and no sync is needed: for a
 program that writes a line and waits for its reply. At a terminal serve and dump
 do so by themselves, with a prompt, which has the words help and quit.
 
-Sizes. The number of pages is fixed at the start, and a page has room for 14
+Sizes. The index begins with 1024 pages, and has twice as many whenever the next
+lines may lack some; --most N is a bound. With --pages or --large it has so many
+from the start, and grows only where --most says so. A page has room for 14
 rows. Rows in an empty index before the first noroom, by the order of the keys,
 and rows in all where random keys went on; by one worker, by more about as many:
     pages     falling     rising     random    in all   memory
      1024      11,347      7,174      9,100    12,840   0.6 MB
     65536     723,121    458,758    583,000   823,198    36 MB
   1048576  10,208,534  7,340,030  9,331,000         -   328 MB
-Some six rows a page surely fit. More than 65536 pages are had by --large. A
+Some six rows a page surely fit. While it grows a reply waits, a second or less
+for a million rows. Where memory for that is refused it stays as it is. A
 request that finds no room changes nothing.
 --stats says how many did, and how many pages are in use.
 
 With --image the index begins with the rows of the image, as `blink dump` writes
-it, and has as many pages; the file stays as it is.
+it, and with its pages; the file stays as it is.
 
 Examples:
   printf 'insert 5 50\\nsync\\nfind 5\\n' | blink serve
@@ -86,8 +89,8 @@ whole image, or what it had. Its mode stays, and a link is followed. What is no
 regular file is refused before anything is read. `blink check FILE` says what
 is in FILE, and `blink draw FILE` shows it.
 
-With --image the index begins with the rows of that image, and has as many
-pages.
+With --image the index begins with the rows and the pages of that image. The new
+one has as many pages as the index has grown to.
 
 Examples:
   printf 'insert 5 50\\n' | blink dump index.image
@@ -105,7 +108,7 @@ Reads rows, a line `K V` each, by rising keys, as `blink rows` prints them, and
 writes an image of them to FILE as `blink dump` does. Each leaf has as many rows
 as --fill says, and each page above as many children, but two at least; the
 leftmost page of a level has what is left. So 65536 pages hold 823,000 rows. An
-index has as many pages as its image: where rows are to be inserted, load fewer.
+index from an image grows as rows come, and full pages split.
 
 Examples:
   printf '5 50\\n6 60\\n' | blink load index.image

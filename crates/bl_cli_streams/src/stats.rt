@@ -45,18 +45,17 @@ pub fn stats_line(
     Ok(line)
 }
 
-/// The line for requests that found no room, and what helps: of an index that began with an image, which has as many pages as
-/// that, and of one with so many pages.
+/// The line for requests that found no room, and what helps: of an index that has so many pages, and may grow up to so many.
 pub fn noroom_line(
     alloc: Global,
     norooms: u64,
     pages: u32,
-    has_image: bool,
+    most: u32,
 ) -> Result<String, AllocError> {
     let requests = if norooms == 1 { "request" } else { "requests" };
-    if has_image {
+    if pages < most {
         return format!(in alloc;
-            "blink: {norooms} {requests} found no room; an index has as many pages as its image"
+            "blink: {norooms} {requests} found no room; the index grows to {most} pages, where memory for them is found"
         );
     }
     if pages >= MOST_LARGE_PAGES {

@@ -12,20 +12,20 @@ use Rattle.bl_serve_lines.specs.declared.serving.ServeFault.{ServeFault}
 use Rattle.bl_serve_lines.specs.declared.serving.ServeFault.TheVariants.{Read, Write}
 use Rattle.bl_serve_lines.specs.declared.serving.Totals.{Totals}
 use Rattle.bl_serve_worker.proofs.Lines.{history_append}
-use Rattle.bl_serve.specs.declared.section_reader.SectionEnd.{SectionEnd}
-use Rattle.bl_serve.specs.declared.section_reader.SectionEnd.TheVariants as section_end
+use Rattle.bl_serve_reading.specs.declared.section_reader.SectionEnd.{SectionEnd}
+use Rattle.bl_serve_reading.specs.declared.section_reader.SectionEnd.TheVariants as section_end
 use Rattle.bl_model.specs.History.{IsLegalFrom, final_map}
 use Rattle.bl_model.proofs.Histories.{legal_append, legal_rest}
 use Rattle.bl_serve_lines.specs.Lines.{Line, IsLine, Answer, entries, input_of, output_of, rest_text, text_of, HasNoLf}
 use Rattle.bl_serve_lines.specs.Served.{Section, IsSection, IsFinished, HasNoEndInside, Interleaves, on_key, lines_of, malformed_of, syncs_of, one_if_any, Served, Stopped, Stops, Leaves, ComesFrom}
 use Rattle.bl_serve_lines.specs.Served.Interleaves.{Done, Takes}
 use Rattle.bl_serve_lines.specs.Served as served
-use Rattle.bl_serve.specs.Reading.{AskNoEnd, AskEndLast, ReadsLines}
+use Rattle.bl_serve_reading.specs.Reading.{AskNoEnd, AskEndLast, ReadsLines}
 use Rattle.bl_serve.specs.Sections.{rests, end_text, CountsSection, Held}
 use Rattle.bl_serve.specs.Serving.{ServedBy}
 use Rattle.bl_page.specs.declared.page.Page.{Page}
 use Rattle.bl_claims.specs.Trails.{Trail, history_of}
-use Rattle.bl_claims.specs.Seeing.{first_map, rows_in, IsLinearizable}
+use Rattle.bl_claims.specs.Seeing.{first_map, rows_in}
 use Rattle.bl_index.specs.Calls.{map_after}
 use Rattle.bl_serve_lines.proofs.Sections.{output_append, no_end_inside, no_end_any, no_end_none}
 use Rattle.bl_serve.proofs.Finite.{finite_rows, finite_history}
@@ -45,7 +45,7 @@ pub input_append : (xs ys : List Line) → input_of (xs ++ ys) ≡ input_of xs +
 input_append xs ys = flat_map-append (λ l. l.bytes ++ 10 ∷ []) xs ys
 
 -- the finished sections, which began where the passes had seen old and have led to now
-pub record Progress (how : Sectioning) (pages : ℕ) (old now : Trail) (totals : Totals) (input output : List ℕ) : Type 0 where
+pub record Progress (how : Sectioning) (pages : ℕ × ℕ) (old now : Trail) (totals : Totals) (input output : List ℕ) : Type 0 where
   pub sections : List Section
   pub more : Trail
   pub begins : now ≡ old ++ more
@@ -57,23 +57,23 @@ pub record Progress (how : Sectioning) (pages : ℕ) (old now : Trail) (totals :
   pub malformed : totals.malformed ≡ sum_by (λ line. malformed_of line.answer) (lines_of sections)
   pub syncs : totals.sections ≡ sum_by (λ line. syncs_of line.answer) (lines_of sections)
 
-pub no_progress : (how : Sectioning) (pages : ℕ) (old : Trail) (totals : Totals) → (totals.requests ≡ 0) × (totals.malformed ≡ 0) × (totals.sections ≡ 0) → Progress how pages old old totals [] []
+pub no_progress : (how : Sectioning) (pages : ℕ × ℕ) (old : Trail) (totals : Totals) → (totals.requests ≡ 0) × (totals.malformed ≡ 0) × (totals.sections ≡ 0) → Progress how pages old old totals [] []
 no_progress how pages old totals none = record { sections = []; more = []; begins = sym (append-nil old); each = All-nil (IsFinished how pages); history = refl; read = refl; written = refl; requests = none.0; malformed = none.1; syncs = none.2 }
 
 -- a history goes on lawfully behind the one that was seen
-pub legal_on : (first : List (Option Page)) (old now more : Trail) (h : List Entry) → IsLinearizable first (now ++ more) → (begun : Trail) → now ≡ old ++ begun → history_of begun ≡ h → IsLegalFrom (map_after first old) (h ++ history_of more)
+pub legal_on : (first : List (Option Page)) (old now more : Trail) (h : List Entry) → IsLegalFrom (first_map first) (history_of (now ++ more)) → (begun : Trail) → now ≡ old ++ begun → history_of begun ≡ h → IsLegalFrom (map_after first old) (h ++ history_of more)
 legal_on first old now more h seen begun is same =
     subst (λ (z : List Entry). IsLegalFrom (map_after first old) (z ++ history_of more)) same
     (legal_rest (first_map first) (history_of old) (history_of begun ++ history_of more)
-    (subst (IsLegalFrom (first_map first)) (history_append now more ∙ (ap (λ (z : Trail). history_of z ++ history_of more) is ∙ (ap (λ (z : List Entry). z ++ history_of more) (history_append old begun) ∙ append_assoc (history_of old) (history_of begun) (history_of more)))) seen.legal))
+    (subst (IsLegalFrom (first_map first)) (history_append now more ∙ (ap (λ (z : Trail). history_of z ++ history_of more) is ∙ (ap (λ (z : List Entry). z ++ history_of more) (history_append old begun) ∙ append_assoc (history_of old) (history_of begun) (history_of more)))) seen))
 
-pub legal_so_far : (first : List (Option Page)) (old now : Trail) (h : List Entry) → IsLinearizable first now → (begun : Trail) → now ≡ old ++ begun → history_of begun ≡ h → IsLegalFrom (map_after first old) h
+pub legal_so_far : (first : List (Option Page)) (old now : Trail) (h : List Entry) → IsLegalFrom (first_map first) (history_of now) → (begun : Trail) → now ≡ old ++ begun → history_of begun ≡ h → IsLegalFrom (map_after first old) h
 legal_so_far first old now h seen begun is same = subst (IsLegalFrom (map_after first old)) same
-    (legal_rest (first_map first) (history_of old) (history_of begun) (subst (IsLegalFrom (first_map first)) (ap history_of is ∙ history_append old begun) seen.legal))
+    (legal_rest (first_map first) (history_of old) (history_of begun) (subst (IsLegalFrom (first_map first)) (ap history_of is ∙ history_append old begun) seen))
 
 -- ---- a section
 
-module _ (pages : ℕ) (unread left : List ℕ) (asked : List (Option Request)) (rest : List ℕ) (r : ReadsLines unread left asked rest) (done : ℕ) (text : List ℕ) (more : Trail) (h : Held pages done asked text more) where
+module _ (pages : ℕ × ℕ) (unread left : List ℕ) (asked : List (Option Request)) (rest : List ℕ) (r : ReadsLines unread left asked rest) (done : ℕ) (text : List ℕ) (more : Trail) (h : Held pages done asked text more) where
   abbrev pub the_lines : List Line
   the_lines = lines_with r.texts h.answers
 
@@ -94,7 +94,7 @@ written_more : (s : List Section) (lines : List Line) (n : ℕ) (output text : L
 written_more s lines n output text is at e = ap (λ x. x ++ text) is ∙ ap (λ x. output_of 1 (lines_of s) ++ x) e
     ∙ ap (λ k. output_of 1 (lines_of s) ++ output_of k lines) (let same : suc n ≡ 1 + length (lines_of s) = omega (arith, at) in same) ∙ sym (output_append 1 (lines_of s) lines)
 
-pub add_section : (how : Sectioning) (pages : ℕ) (old now : Trail) (before totals : Totals) (input output unread left text : List ℕ) (asked : List (Option Request)) (more : Trail)
+pub add_section : (how : Sectioning) (pages : ℕ × ℕ) (old now : Trail) (before totals : Totals) (input output unread left text : List ℕ) (asked : List (Option Request)) (more : Trail)
     → Progress how pages old now before input output → ReadsLines unread left asked [] → AskEndLast how asked → Held pages before.requests asked text more → CountsSection before totals asked section_end.ByLine
     → (consumed : List ℕ) × (unread ≡ consumed ++ left) × Progress how pages old (now ++ more) totals (input ++ consumed) (output ++ text)
 add_section how pages old now before totals input output unread left text asked more p r last h counts =
@@ -146,8 +146,8 @@ pub open_text : (s : List Section) (lines : List Line) (rest text tail : List �
 open_text s lines rest text tail n k e long is ends = ap (λ (z : List ℕ). z ++ tail) is ∙ (ap (λ (z : List ℕ). output_of (suc n) lines ++ z) ends
     ∙ (ap (λ (z : ℕ). output_of (suc z) lines ++ rest_text (n + k + 1) rest) e ∙ ap (λ (z : ℕ). output_of (suc (length (lines_of s))) lines ++ rest_text z rest) (let at : n + k + 1 ≡ suc (length (lines_of s)) + length lines = omega (arith, e, long) in at)))
 
-pub serves_end : (how : Sectioning) (pages : ℕ) (first : List (Option Page)) (old now : Trail) (before totals : Totals) (input output unread left text rest : List ℕ) (asked : List (Option Request)) (more : Trail) (end : SectionEnd)
-    → Progress how pages old now before input output → ReadsLines unread left asked rest → AskNoEnd how asked → Held pages before.requests asked text more → CountsSection before totals asked end → EndsWith end rest → IsLinearizable first (now ++ more)
+pub serves_end : (how : Sectioning) (pages : ℕ × ℕ) (first : List (Option Page)) (old now : Trail) (before totals : Totals) (input output unread left text rest : List ℕ) (asked : List (Option Request)) (more : Trail) (end : SectionEnd)
+    → Progress how pages old now before input output → ReadsLines unread left asked rest → AskNoEnd how asked → Held pages before.requests asked text more → CountsSection before totals asked end → EndsWith end rest → IsLegalFrom (first_map first) (history_of (now ++ more))
     → (consumed : List ℕ) × (unread ≡ consumed ++ left) × (length asked + length rest ≤ length consumed) × ServedBy how pages first old (now ++ more) (input ++ consumed) (output ++ (text ++ end_text end (before.requests + length asked + 1))) totals
 serves_end how pages first old now before totals input output unread left text rest asked more end p r no_end h counts ends seen =
     let lines : List Line = the_lines pages unread left asked rest r before.requests text more h in
@@ -190,7 +190,7 @@ serves_end how pages first old now before totals input output unread left text r
 -- ---- faults
 
 -- in the open section: nothing of it is written
-pub stops_inside : (how : Sectioning) (pages : ℕ) (first : List (Option Page)) (old now : Trail) (before : Totals) (input output ahead : List ℕ) (fault : ServeFault) (ReaderFailed WriterFailed : Type 0) → (p : Progress how pages old now before input output) → IsLinearizable first now
+pub stops_inside : (how : Sectioning) (pages : ℕ × ℕ) (first : List (Option Page)) (old now : Trail) (before : Totals) (input output ahead : List ℕ) (fault : ServeFault) (ReaderFailed WriterFailed : Type 0) → (p : Progress how pages old now before input output) → IsLegalFrom (first_map first) (history_of now)
     → Leaves how fault (length (lines_of p.sections)) [] ahead [] → ComesFrom fault ReaderFailed WriterFailed → Stops how pages (map_after first old) (input ++ ahead) output fault ReaderFailed WriterFailed
 stops_inside how pages first old now before input output ahead fault ReaderFailed WriterFailed p seen leaves comes = (
   record {
@@ -227,7 +227,7 @@ interleaves_all [] = Done [] (All-nil (λ list. list ≡ []))
 interleaves_all (answer ∷ answers) = interleaves_front (entries answer) (map entries answers) (flat_map entries answers) (interleaves_all answers)
 
 -- the lines behind the finished sections were read, and a beginning of what would be their output is out
-abbrev pub stopped : (how : Sectioning) (pages : ℕ) (first : List (Option Page)) (old now : Trail) (before : Totals) (input output unread left rest begun unwritten : List ℕ) (fault : ServeFault) (p : Progress how pages old now before input output) (last : Section) → IsSection pages last → HasNoEndInside how last.lines → HasNoLf rest
+abbrev pub stopped : (how : Sectioning) (pages : ℕ × ℕ) (first : List (Option Page)) (old now : Trail) (before : Totals) (input output unread left rest begun unwritten : List ℕ) (fault : ServeFault) (p : Progress how pages old now before input output) (last : Section) → IsSection pages last → HasNoEndInside how last.lines → HasNoLf rest
     → IsLegalFrom (map_after first old) (served.history_of p.sections ++ last.history) → unread ≡ input_of last.lines ++ rest ++ left
     → text_of (suc (length (lines_of p.sections))) last.lines rest ≡ begun ++ unwritten → Leaves how fault (length (lines_of p.sections)) begun left last.lines
     → Stopped how pages (map_after first old) (input ++ unread) (output ++ begun) fault
@@ -251,13 +251,13 @@ stopped how pages first old now before input output unread left rest begun unwri
 }
 
 -- a read failed. The lines of the open section were not answered; they could have been so.
-pub stops_reading : (how : Sectioning) (pages : ℕ) (first : List (Option Page)) (old now : Trail) (before : Totals) (input output unread left rest : List ℕ) (asked : List (Option Request)) (ReaderFailed WriterFailed : Type 0) → Progress how pages old now before input output → IsLinearizable first now
+pub stops_reading : (how : Sectioning) (pages : ℕ × ℕ) (first : List (Option Page)) (old now : Trail) (before : Totals) (input output unread left rest : List ℕ) (asked : List (Option Request)) (ReaderFailed WriterFailed : Type 0) → pages.0 ≤ pages.1 → Progress how pages old now before input output → IsLegalFrom (first_map first) (history_of now)
     → ReadsLines unread left asked rest → AskNoEnd how asked → left ≡ [] → ReaderFailed → Stops how pages (map_after first old) (input ++ unread) output Read ReaderFailed WriterFailed
-stops_reading how pages first old now before input output unread left rest asked ReaderFailed WriterFailed p seen r no_end none failed =
+stops_reading how pages first old now before input output unread left rest asked ReaderFailed WriterFailed some p seen r no_end none failed =
     let s = p.sections in
     let so_far = legal_so_far first old now (served.history_of s) seen p.more p.begins p.history in
     let finite = finite_history (map_after first old) (served.history_of s) (finite_history (first_map first) (history_of old) (finite_rows (rows_in first))) in
-    let l = lawful pages (final_map (map_after first old) (served.history_of s)) finite asked r.texts r.each in
+    let l = lawful pages some (final_map (map_after first old) (served.history_of s)) finite asked r.texts r.each in
     let are = are_lines pages asked r.texts l.answers r.each l.each in
     let lines : List Line = lines_with r.texts l.answers in
     let last : Section = record { lines = lines; history = flat_map entries l.answers } in
@@ -271,8 +271,8 @@ stops_reading how pages first old now before input output unread left rest asked
     )
 
 -- a write of the section's output failed
-pub stops_writing : (how : Sectioning) (pages : ℕ) (first : List (Option Page)) (old now : Trail) (before : Totals) (input output unread left text rest out unwritten : List ℕ) (asked : List (Option Request)) (more : Trail) (end : SectionEnd) (ReaderFailed WriterFailed : Type 0)
-    → Progress how pages old now before input output → (r : ReadsLines unread left asked rest) → (h : Held pages before.requests asked text more) → HasNoEndInside how (lines_with r.texts h.answers) → ((n : ℕ) → end_text end n ≡ rest_text n rest) → IsLinearizable first (now ++ more)
+pub stops_writing : (how : Sectioning) (pages : ℕ × ℕ) (first : List (Option Page)) (old now : Trail) (before : Totals) (input output unread left text rest out unwritten : List ℕ) (asked : List (Option Request)) (more : Trail) (end : SectionEnd) (ReaderFailed WriterFailed : Type 0)
+    → Progress how pages old now before input output → (r : ReadsLines unread left asked rest) → (h : Held pages before.requests asked text more) → HasNoEndInside how (lines_with r.texts h.answers) → ((n : ℕ) → end_text end n ≡ rest_text n rest) → IsLegalFrom (first_map first) (history_of (now ++ more))
     → text ++ end_text end (before.requests + length asked + 1) ≡ out ++ unwritten → WriterFailed → Stops how pages (map_after first old) (input ++ unread) (output ++ out) Write ReaderFailed WriterFailed
 stops_writing how pages first old now before input output unread left text rest out unwritten asked more end ReaderFailed WriterFailed p r h inside prints seen split failed =
     let s = p.sections in let lines : List Line = the_lines pages unread left asked rest r before.requests text more h in
@@ -285,10 +285,10 @@ stops_writing how pages first old now before input output unread left text rest 
     )
 
 -- no line before the last one ends a section
-pub inside_no_end : (how : Sectioning) (pages : ℕ) (unread left rest : List ℕ) (asked : List (Option Request)) (r : ReadsLines unread left asked rest) (done : ℕ) (text : List ℕ) (more : Trail) (h : Held pages done asked text more) → AskNoEnd how asked → HasNoEndInside how (lines_with r.texts h.answers)
+pub inside_no_end : (how : Sectioning) (pages : ℕ × ℕ) (unread left rest : List ℕ) (asked : List (Option Request)) (r : ReadsLines unread left asked rest) (done : ℕ) (text : List ℕ) (more : Trail) (h : Held pages done asked text more) → AskNoEnd how asked → HasNoEndInside how (lines_with r.texts h.answers)
 inside_no_end how pages unread left rest asked r done text more h no_end = no_end_any how (lines_with r.texts h.answers) (no_end_lines how pages asked r.texts h.answers r.each h.each no_end)
 
-pub inside_end_last : (how : Sectioning) (pages : ℕ) (unread left rest : List ℕ) (asked : List (Option Request)) (r : ReadsLines unread left asked rest) (done : ℕ) (text : List ℕ) (more : Trail) (h : Held pages done asked text more) → AskEndLast how asked → HasNoEndInside how (lines_with r.texts h.answers)
+pub inside_end_last : (how : Sectioning) (pages : ℕ × ℕ) (unread left rest : List ℕ) (asked : List (Option Request)) (r : ReadsLines unread left asked rest) (done : ℕ) (text : List ℕ) (more : Trail) (h : Held pages done asked text more) → AskEndLast how asked → HasNoEndInside how (lines_with r.texts h.answers)
 inside_end_last how pages unread left rest asked r done text more h last = let e = end_lines how pages asked r.texts h.answers r.each h.each last in subst (HasNoEndInside how) (sym e.ends) (no_end_inside how e.front e.end e.no_end)
 
 lines_short : (lines : List Line) → length lines ≤ length (input_of lines)
@@ -298,5 +298,5 @@ lines_short (line ∷ lines) = let e = ap length (flat_map-cons (λ (l : Line). 
     let d = lines_short lines in omega (arith, a, b, c, d, e)
 
 -- the input has a byte for each line
-pub input_long : (how : Sectioning) (pages : ℕ) (old now : Trail) (totals : Totals) (input output : List ℕ) → Progress how pages old now totals input output → totals.requests ≤ length input
+pub input_long : (how : Sectioning) (pages : ℕ × ℕ) (old now : Trail) (totals : Totals) (input output : List ℕ) → Progress how pages old now totals input output → totals.requests ≤ length input
 input_long how pages old now totals input output p = let a = lines_short (lines_of p.sections) in let e : length input ≡ length (input_of (lines_of p.sections)) = ap length p.read in omega (arith, a, e, p.requests)

@@ -7,10 +7,6 @@ use Rattle.bl_model.specs.Rows.{map_of}
 use Rattle.bl_check.specs.declared.quiet.Quiet.{Quiet}
 use Rattle.bl_check.specs.Spans.{leftmost}
 use Rattle.bl_check_laws.proofs.RowsFound.{rows_same}
-use Rattle.bl_serve_lines.specs.declared.serving.Sectioning.{Sectioning}
-use Rattle.bl_serve_lines.specs.declared.serving.Totals.{Totals}
-use Rattle.bl_serve_lines.specs.declared.serving.ServeFault.{ServeFault}
-use Rattle.bl_serve_lines.specs.Served.{Served, Stops}
 use Rattle.bl_page.specs.declared.page.Page.{Page}
 use Rattle.bl_claims.specs.Trails.{Trail}
 use Rattle.bl_claims.specs.Seeing.{first_map}
@@ -21,8 +17,8 @@ use Rattle.bl_index.specs.Opened.{IsBegun, IsReopened}
 use Rattle.bl_serve.specs.declared.origin.Origin.{Origin}
 use Rattle.bl_serve.specs.declared.origin.Origin.TheVariants.{Empty, Image}
 use Rattle.bl_serve.specs.Begun.{IsBegunFrom}
-use Rattle.bl_serve.specs.Origins.{HasRows, ServedFrom, StopsFrom, Stopped, size_of}
-use Rattle.bl_serve.specs.Serving.{AreFrom, AreTogether, Serves, seen_by}
+use Rattle.bl_serve.specs.Origins.{HasRows}
+use Rattle.bl_serve.specs.Serving.{AreFrom, AreTogether, seen_by}
 
 -- ---- they are together
 
@@ -40,7 +36,7 @@ none_seen [] each = refl
 none_seen (p ∷ ps) each = each 0 p refl
 
 module _ (image : List (Option Page)) (size among : ℕ) (index : Index) (passes : List Pass) (b : IsBegun image size among index passes) where
-  unseen : seen_by passes ≡ []
+  pub unseen : seen_by passes ≡ []
   unseen = none_seen passes (λ n pass at. (b.each n pass at).2)
 
   pub together : AreTogether index (seen_by passes) passes
@@ -74,28 +70,9 @@ image_begins quiet among index passes r = let image = quiet.image.pages.items in
   together = together image (length image) among index passes r.begun;
 }
 
--- ---- they serve from those rows
+-- ---- the rows
 
 -- it begins with no others
 pub same_rows : (origin : Origin) (rows other : List (ℕ × ℕ)) → HasRows origin rows → HasRows origin other → rows ≡ other
 same_rows (Empty pages) rows other a b = a ∙ sym b
 same_rows (Image quiet) rows other a b = rows_same quiet.image.pages.items (leftmost quiet.image.pages.items 0) rows other a b
-
-module _ (how : Sectioning) (origin : Origin) (among : ℕ) (index : Index) (olds : List Pass) (b : IsBegunFrom origin among index olds) where
-  -- the map after what they have seen is that of the rows
-  pub rows_seen : map_after (first_of index) (seen_by olds) ≡ map_of b.rows
-  rows_seen = ap (map_after (first_of index)) b.unseen ∙ b.map
-
-  pub served_from : (news : List Pass) (totals : Totals) (input output : List ℕ) → Serves how index olds news totals input output → ServedFrom how origin totals input output
-  served_from news totals input output s = record { rows = b.rows; are_rows = b.are_rows; served = subst (λ (z : ℕ × Map). Served how z.0 z.1 input output totals) (λ i. (b.pages i, rows_seen i)) s.served.served }
-
-  pub stops_from : (input output : List ℕ) (fault : ServeFault) (reader_failed writer_failed : Type 0) → Stops how (pages_of index) (map_after (first_of index) (seen_by olds)) input output fault reader_failed writer_failed → StopsFrom how origin input output fault reader_failed writer_failed
-  stops_from input output fault reader_failed writer_failed s = Stopped b.rows b.are_rows (subst (λ (z : ℕ × Map). Stops how z.0 z.1 input output fault reader_failed writer_failed) (λ i. (b.pages i, rows_seen i)) s)
-
-  -- the outside has the log of their map
-  pub log_seen : (holds : Map → Type 0) → (rows : List (ℕ × ℕ)) × HasRows origin rows × holds (map_of rows) → holds (map_after (first_of index) (seen_by olds))
-  log_seen holds (rows, are, held) = subst holds (ap map_of (same_rows origin rows b.rows are b.are_rows) ∙ sym rows_seen) held
-
-  -- what is said of that map is said of the one of the rows
-  pub said_of_rows : (P : ℕ → Map → Type 0) (rows : List (ℕ × ℕ)) → HasRows origin rows → P (pages_of index) (map_after (first_of index) (seen_by olds)) → P (size_of origin) (map_of rows)
-  said_of_rows P rows are h = subst (λ (z : ℕ × Map). P z.0 z.1) (λ i. (b.pages i, (rows_seen ∙ ap map_of (same_rows origin b.rows rows b.are_rows are)) i)) h

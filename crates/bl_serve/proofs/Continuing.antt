@@ -19,18 +19,22 @@ use Rattle.bl_serve_lines.proofs.Keys.{on_key_append}
 use Rattle.bl_serve_lines.proofs.Sections.{short_then}
 use Rattle.bl_serve_lines.specs.Served.Interleaves.{Done, Takes}
 use Rattle.bl_claims.specs.Trails.{Trail, history_of}
-use Rattle.bl_index.specs.declared.index.Index.{Index}
 use Rattle.bl_index.specs.declared.index.Pass.{Pass}
-use Rattle.bl_index.specs.Calls.{pages_of}
-use Rattle.bl_serve.specs.declared.section_reader.SectionEnd.{SectionEnd}
-use Rattle.bl_serve.specs.declared.section_reader.SectionEnd.TheVariants.{ByLine, Rest, Finished}
+use Rattle.bl_serve.specs.declared.ground.Ground.{Ground}
+use Rattle.bl_serve_reading.specs.declared.section_reader.SectionEnd.{SectionEnd}
+use Rattle.bl_serve_reading.specs.declared.section_reader.SectionEnd.TheVariants.{ByLine, Rest, Finished}
 use Rattle.bl_serve_worker.specs.Answering.{IsFor, answers_text}
-use Rattle.bl_serve.specs.Reading.{IsReadAs, bytes_of, AsksEnd, AskNoEnd, AskEndLast, ReadsLines, EndsReading}
-use Rattle.bl_serve.specs.Sections.{Held, CountsSection, end_text, is_sync, rests}
-use Rattle.bl_serve.specs.Serving.{AreTogether, FailsSection, ServesSection, IsInside, seen_by}
-use Rattle.bl_serve_worker.proofs.Lines.{history_append, zip_append, zip_length, text_append}
-use Rattle.bl_serve.proofs.Holding.{first_seen}
-use Rattle.bl_serve.proofs.Cutting.{asks_none}
+use Rattle.bl_serve_reading.specs.Syncs.{is_sync}
+use Rattle.bl_serve_reading.specs.Reading.{IsReadAs, bytes_of, AsksEnd, AskNoEnd, AskEndLast, ReadsLines, EndsReading}
+use Rattle.bl_serve.specs.Sections.{Held, CountsSection, end_text, rests}
+use Rattle.bl_serve.specs.Holding.{ServesSection}
+use Rattle.bl_serve.specs.Serving.{FailsSection, IsInside, seen_by}
+use Rattle.bl_serve.specs.Standing.{IsAtRest, StandsAt, sizes_in}
+use Rattle.bl_serve_lines.proofs.Known.{zip_append}
+use Rattle.bl_serve_worker.proofs.Lines.{history_append, zip_length, text_append}
+use Rattle.bl_serve.proofs.Standing.{stands_first}
+use Rattle.bl_serve.proofs.Wider.{wider}
+use Rattle.bl_serve_reading.proofs.Cutting.{asks_none}
 use Rattle.bl_serve.proofs.Faults.{reads_of}
 use Rattle.bl_serve.proofs.Advance.{interleaves_skip}
 
@@ -106,7 +110,7 @@ interleaves_then (Takes before e list after h more) ys k b =
     subst (λ (z : List (List Entry)). Interleaves z (e ∷ (h ++ k))) (sym (append_assoc before ((e ∷ list) ∷ after) ys))
     (Takes before e list (after ++ ys) (h ++ k) (subst (λ (z : List (List Entry)). Interleaves z (h ++ k)) (append_assoc before (list ∷ after) ys) (interleaves_then more ys k b)))
 
-held_then : (pages done : ℕ) (xs ys : List (Option Request)) (text text' : List ℕ) (more more' : Trail) → Held pages done xs text more → Held pages (done + length xs) ys text' more' → Held pages done (xs ++ ys) (text ++ text') (more ++ more')
+held_then : (pages : ℕ × ℕ) (done : ℕ) (xs ys : List (Option Request)) (text text' : List ℕ) (more more' : Trail) → Held pages done xs text more → Held pages (done + length xs) ys text' more' → Held pages done (xs ++ ys) (text ++ text') (more ++ more')
 held_then pages done xs ys text text' more more' a b = record {
   answers = a.answers ++ b.answers;
   each = zip_append (IsFor pages) xs ys a.answers b.answers a.each b.each;
@@ -119,26 +123,25 @@ held_then pages done xs ys text text' more more' a b = record {
       ∙ (sym (on_key_append key (flat_map entries a.answers) (flat_map entries b.answers)) ∙ ap (on_key key) (sym (flat_map-append entries a.answers b.answers)))));
 }
 
-pub serves_nothing : (index : Index) (done : ℕ) (olds : List Pass) → AreTogether index (seen_by olds) olds → ServesSection index done [] Finished [] olds olds
-serves_nothing index done olds t = record {
+pub serves_nothing : (pages : ℕ × ℕ) (done : ℕ) (ground : Ground) (olds : List Pass) → ServesSection pages ground done [] Finished [] olds ground olds
+serves_nothing pages done ground olds = record {
   answers = [];
   holds = record {
     more = [];
     held = record { answers = []; each = tt; prints = refl; interleaves = Done [] (All-nil (λ (list : List Entry). list ≡ [])); order = λ key. refl };
-    together = subst (λ (z : Trail). AreTogether index z olds) (sym (append-nil (seen_by olds))) t;
+    goes = λ from its seen t. subst (λ (z : Trail). StandsAt from its z ground olds) (sym (append-nil seen)) t;
   };
   ends = refl;
 }
 
-pub serves_then : (index : Index) (done now : ℕ) (xs ys : List (Option Request)) (end : SectionEnd) (text text' : List ℕ) (olds mids news : List Pass) → now ≡ done + length xs → 0 < length mids
-    → ServesSection index done xs Finished text olds mids → ServesSection index now ys end text' mids news → ServesSection index done (xs ++ ys) end (text ++ text') olds news
-serves_then index done now xs ys end text text' olds mids news at some a b' = let b = subst (λ (n : ℕ). ServesSection index n ys end text' mids news) at b' in record {
+pub serves_then : (pages : ℕ × ℕ) (old mid new : Ground) (done now : ℕ) (xs ys : List (Option Request)) (end : SectionEnd) (text text' : List ℕ) (olds mids news : List Pass) → now ≡ done + length xs
+    → ServesSection pages old done xs Finished text olds mid mids → ServesSection pages mid now ys end text' mids new news → ServesSection pages old done (xs ++ ys) end (text ++ text') olds new news
+serves_then pages old mid new done now xs ys end text text' olds mids news at a b' = let b = subst (λ (n : ℕ). ServesSection pages mid n ys end text' mids new news) at b' in record {
   answers = a.answers ++ b.answers;
   holds = record {
     more = a.holds.more ++ b.holds.more;
-    held = held_then (pages_of index) done xs ys a.answers b.answers a.holds.more b.holds.more a.holds.held b.holds.held;
-    together = subst (λ (z : Trail). AreTogether index z news)
-        (ap (λ (z : Trail). z ++ b.holds.more) (first_seen index (seen_by olds ++ a.holds.more) mids some a.holds.together) ∙ append_assoc (seen_by olds) a.holds.more b.holds.more) b.holds.together;
+    held = held_then pages done xs ys a.answers b.answers a.holds.more b.holds.more a.holds.held b.holds.held;
+    goes = λ from its seen t. subst (λ (z : Trail). StandsAt from its z new news) (append_assoc seen a.holds.more b.holds.more) (b.holds.goes from its (seen ++ a.holds.more) (a.holds.goes from its seen t));
   };
   ends = ap (λ (z : List ℕ). z ++ text') (a.ends ∙ append-nil a.answers) ∙ (ap (λ (z : List ℕ). a.answers ++ z) b.ends ∙ (sym (append_assoc a.answers b.answers (end_text end (done + length xs + length ys + 1)))
       ∙ ap (λ (n : ℕ). (a.answers ++ b.answers) ++ end_text end n) (let long = length-append xs ys in let e : done + length xs + length ys + 1 ≡ done + length (xs ++ ys) + 1 = omega (arith, long) in e)));
@@ -164,25 +167,36 @@ inside_then done now xs ys (Lost number) at i = let long = length-append xs ys i
 -- ---- from chunk to chunk
 
 -- lines of a section were read and answered, and it goes on
-pub record HasServed (how : Sectioning) (index : Index) (olds passes : List Pass) (start now : Totals) (unread mid : List ℕ) (asked : List (Option Request)) (text : List ℕ) : Type 0 where
+pub record HasServed (how : Sectioning) (old : Ground) (olds : List Pass) (ground : Ground) (passes : List Pass) (start now : Totals) (unread mid : List ℕ) (asked : List (Option Request)) (text : List ℕ) : Type 0 where
   pub front : ReadsLines unread mid asked []
   pub no_end : AskNoEnd how asked
   pub counts : CountsSection start now asked Finished
-  pub serves : ServesSection index start.requests asked Finished text olds passes
-  pub some : 0 < length passes
+  pub serves : ServesSection (sizes_in old) old start.requests asked Finished text olds ground passes
+  pub first : IsAtRest old olds
   pub room : now.requests < 2 ^ 64
 
-pub served_nothing : (how : Sectioning) (index : Index) (passes : List Pass) (totals : Totals) (unread : List ℕ) (text : List ℕ) → text ≡ [] → AreTogether index (seen_by passes) passes → 0 < length passes → totals.requests < 2 ^ 64 → HasServed how index passes passes totals totals unread unread [] text
-served_nothing how index passes totals unread text none t some room = subst (HasServed how index passes passes totals totals unread unread []) (sym none) (record {
+pub served_nothing : (how : Sectioning) (ground : Ground) (passes : List Pass) (totals : Totals) (unread : List ℕ) (text : List ℕ) → text ≡ [] → IsAtRest ground passes → totals.requests < 2 ^ 64 → HasServed how ground passes ground passes totals totals unread unread [] text
+served_nothing how ground passes totals unread text none t room = subst (HasServed how ground passes ground passes totals totals unread unread []) (sym none) (record {
   front = record { texts = []; each = tt; cut = All-nil (λ b. b ≢ 10); read = refl };
   no_end = asks_none how;
   counts = counts_nothing totals;
-  serves = serves_nothing index totals.requests passes t;
-  some = some;
+  serves = serves_nothing (sizes_in ground) totals.requests ground passes;
+  first = t;
   room = room;
 })
 
-module _ (how : Sectioning) (index : Index) (olds passes : List Pass) (start now : Totals) (unread mid : List ℕ) (asked : List (Option Request)) (text : List ℕ) (h : HasServed how index olds passes start now unread mid asked text) where
+module _ (how : Sectioning) (old : Ground) (olds : List Pass) (ground : Ground) (passes : List Pass) (start now : Totals) (unread mid : List ℕ) (asked : List (Option Request)) (text : List ℕ) (h : HasServed how old olds ground passes start now unread mid asked text) where
+  -- where the server stands
+  abbrev place : StandsAt old (sizes_in old) (seen_by olds ++ h.serves.holds.more) ground passes
+  place = h.serves.holds.goes old (sizes_in old) (seen_by olds) (stands_first old olds h.first)
+
+  pub rests_here : IsAtRest ground passes
+  rests_here = place.rests
+
+  -- its index has no fewer pages than at the section's beginning
+  as_before : (lines : List (Option Request)) (end : SectionEnd) (text' : List ℕ) (new : Ground) (news : List Pass) → ServesSection (sizes_in ground) ground now.requests lines end text' passes new news → ServesSection (sizes_in old) ground now.requests lines end text' passes new news
+  as_before lines end text' new news s = wider (sizes_in old) (sizes_in ground) place.least (let same = place.most in omega (arith, same)) ground now.requests lines end text' passes new news s
+
   now_is : now.requests ≡ start.requests + length asked
   now_is = let a = h.counts.requests in omega (arith, a)
 
@@ -195,8 +209,8 @@ module _ (how : Sectioning) (index : Index) (olds passes : List Pass) (start now
   pub counts_all : (new : Totals) (lines : List (Option Request)) (end : SectionEnd) → CountsSection now new lines end → CountsSection start new (asked ++ lines) end
   counts_all new lines end c = counts_then start now new asked lines end h.counts c
 
-  pub serves_all : (lines : List (Option Request)) (end : SectionEnd) (text' : List ℕ) (news : List Pass) → ServesSection index now.requests lines end text' passes news → ServesSection index start.requests (asked ++ lines) end (text ++ text') olds news
-  serves_all lines end text' news s = serves_then index start.requests now.requests asked lines end text text' olds passes news now_is h.some h.serves s
+  pub serves_all : (lines : List (Option Request)) (end : SectionEnd) (text' : List ℕ) (new : Ground) (news : List Pass) → ServesSection (sizes_in ground) ground now.requests lines end text' passes new news → ServesSection (sizes_in old) old start.requests (asked ++ lines) end (text ++ text') olds new news
+  serves_all lines end text' new news s = serves_then (sizes_in old) old ground new start.requests now.requests asked lines end text text' olds passes news now_is h.serves (as_before lines end text' new news s)
 
   -- its next lines could not be answered, while more was read
   pub fails_answering : (fault : ServeFault) (end : SectionEnd) (few most : ℕ) (lines : List (Option Request)) (rest left more : List ℕ) (AtEnd Failed AtEnd' Failed' : Type 0) → EndsReading (after_lines how (length asked)) (Ok end) few lines rest mid left AtEnd Failed → IsInside now.requests (length lines) fault
@@ -207,16 +221,16 @@ module _ (how : Sectioning) (index : Index) (olds passes : List Pass) (start now
   )
 
   -- they were answered, while more was read, and it goes on
-  pub goes_on : (new : Totals) (end : SectionEnd) (few : ℕ) (lines : List (Option Request)) (rest left more text' : List ℕ) (news : List Pass) (AtEnd Failed : Type 0) → end ≡ Finished → EndsReading (after_lines how (length asked)) (Ok end) few lines rest mid left AtEnd Failed → few ≤ 2 ^ 64 - 1 - now.requests
-      → CountsSection now new lines end → ServesSection index now.requests lines end text' passes news → HasServed how index olds news start new (unread ++ more) (left ++ more) (asked ++ lines) (text ++ text')
-  goes_on new end few lines rest left more text' news AtEnd Failed is e' low c' s' =
+  pub goes_on : (new : Totals) (end : SectionEnd) (few : ℕ) (lines : List (Option Request)) (rest left more text' : List ℕ) (next : Ground) (news : List Pass) (AtEnd Failed : Type 0) → end ≡ Finished → EndsReading (after_lines how (length asked)) (Ok end) few lines rest mid left AtEnd Failed → few ≤ 2 ^ 64 - 1 - now.requests
+      → CountsSection now new lines end → ServesSection (sizes_in ground) ground now.requests lines end text' passes next news → HasServed how old olds next news start new (unread ++ more) (left ++ more) (asked ++ lines) (text ++ text')
+  goes_on new end few lines rest left more text' next news AtEnd Failed is e' low c' s' =
       let e = subst (λ (z : SectionEnd). EndsReading (after_lines how (length asked)) (Ok z) few lines rest mid left AtEnd Failed) is e' in let c = subst (CountsSection now new lines) is c' in
-      let s = subst (λ (z : SectionEnd). ServesSection index now.requests lines z text' passes news) is s' in record {
+      let s = subst (λ (z : SectionEnd). ServesSection (sizes_in ground) ground now.requests lines z text' passes next news) is s' in record {
         front = reads_ahead unread left more (asked ++ lines) [] (reads_then unread mid left asked lines [] h.front (subst (ReadsLines mid left lines) e.2 e.0));
         no_end = no_end_then how asked lines h.no_end e.3;
         counts = counts_all new lines Finished c;
-        serves = serves_all lines Finished text' news s;
-        some = (let a = h.serves.holds.together.count in let b = s.holds.together.count in let d = h.some in omega (arith, a, b, d));
+        serves = serves_all lines Finished text' next news s;
+        first = h.first;
         room = (let a = c.requests in let b = e.1 in let d = h.room in omega (arith, a, b, d, low));
       }
 

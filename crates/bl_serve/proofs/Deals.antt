@@ -3,7 +3,8 @@ use Rattle.std.proofs.Common.{◌≡◌, ℕ, ◌+◌, ◌<◌, ◌≤◌, Optio
 use Rattle.std.specs.List.{AllZip}
 use Rattle.std.proofs.lemmas.List.{take_all, take_more}
 use Rattle.bl_serve_lines.specs.declared.request.Request.{Request}
-use Rattle.bl_serve_worker.proofs.Lines.{zip_append, zip_length}
+use Rattle.bl_serve_worker.proofs.Lines.{zip_length}
+use Rattle.bl_serve_lines.proofs.Known.{zip_append}
 use Rattle.bl_serve.specs.Dealing.{AreDealt, IsOn, spread}
 
 abbrev IsSpread : ℕ → ℕ → Option Request → Type 0

@@ -34,20 +34,20 @@ weaker_low few many le deals low = All-weaker (λ s. s < few) (λ s. s < many) (
 
 -- the pieces from a share on
 module _ (pages number : ℕ) (deals : List ℕ) (lines : List (Option Request)) where
-  hand_from : (pieces : List Piece) (from count : ℕ) → map (λ p. p.output.share) pieces ≡ numbers from count → All (IsPiece pages number deals lines) pieces → All (λ s. s < from + count) deals → (k : ℕ) → AllZip (IsFor pages) (dealt (from + k) deals lines) (hand_at pieces k)
-  hand_from [] from zero is each low k = subst (λ (z : List (Option Request)). AllZip (IsFor pages) z []) (sym (none_dealt (from + k) deals lines (weaker_low (from + 0) (from + k) (omega arith) deals low))) tt
+  hand_from : (pieces : List Piece) (from count : ℕ) → map (λ p. p.output.share) pieces ≡ numbers from count → All (IsPiece pages number deals lines) pieces → All (λ s. s < from + count) deals → (k : ℕ) → AllZip (IsFor (pages, pages)) (dealt (from + k) deals lines) (hand_at pieces k)
+  hand_from [] from zero is each low k = subst (λ (z : List (Option Request)). AllZip (IsFor (pages, pages)) z []) (sym (none_dealt (from + k) deals lines (weaker_low (from + 0) (from + k) (omega arith) deals low))) tt
   hand_from [] from (suc count) is each low k = absurd (let no : ⊥ = cc in no)
   hand_from (p ∷ pieces) from zero is each low k = absurd (let no : ⊥ = cc in no)
   hand_from (p ∷ pieces) from (suc count) is each low zero =
       let first : p.output.share ≡ from = cc in
-      subst (λ (s : ℕ). AllZip (IsFor pages) (dealt s deals lines) p.answers) (first ∙ (let e : from ≡ from + 0 = omega arith in e)) (All-head (IsPiece pages number deals lines) p pieces each).each
+      subst (λ (s : ℕ). AllZip (IsFor (pages, pages)) (dealt s deals lines) p.answers) (first ∙ (let e : from ≡ from + 0 = omega arith in e)) (All-head (IsPiece pages number deals lines) p pieces each).each
   hand_from (p ∷ pieces) from (suc count) is each low (suc k) =
       let rest : map (λ p. p.output.share) pieces ≡ numbers (suc from) count = cc in
-      subst (λ (s : ℕ). AllZip (IsFor pages) (dealt s deals lines) (hand_at pieces k)) (let e : suc from + k ≡ from + suc k = omega arith in e)
+      subst (λ (s : ℕ). AllZip (IsFor (pages, pages)) (dealt s deals lines) (hand_at pieces k)) (let e : suc from + k ≡ from + suc k = omega arith in e)
       (hand_from pieces (suc from) count rest (All-tail (IsPiece pages number deals lines) p pieces each) (weaker_low (from + suc count) (suc from + count) (omega arith) deals low) k)
 
-  pub each_hand : (count : ℕ) (pieces : List Piece) → map (λ p. p.output.share) pieces ≡ numbers 0 count → All (IsPiece pages number deals lines) pieces → All (λ s. s < count) deals → (k : ℕ) → AllZip (IsFor pages) (dealt k deals lines) (hand_at pieces k)
-  each_hand count pieces is each low k = subst (λ (s : ℕ). AllZip (IsFor pages) (dealt s deals lines) (hand_at pieces k)) (let e : 0 + k ≡ k = omega arith in e)
+  pub each_hand : (count : ℕ) (pieces : List Piece) → map (λ p. p.output.share) pieces ≡ numbers 0 count → All (IsPiece pages number deals lines) pieces → All (λ s. s < count) deals → (k : ℕ) → AllZip (IsFor (pages, pages)) (dealt k deals lines) (hand_at pieces k)
+  each_hand count pieces is each low k = subst (λ (s : ℕ). AllZip (IsFor (pages, pages)) (dealt s deals lines) (hand_at pieces k)) (let e : 0 + k ≡ k = omega arith in e)
       (hand_from pieces 0 count is each (weaker_low count (0 + count) (omega arith) deals low) k)
 
 all_hands_from : (from : ℕ) (deals : List ℕ) (all : List Answer) (pieces : List Piece) → ((k : ℕ) → dealt (from + k) deals all ≡ hand_at pieces k) → flat_map (λ p. p.answers) pieces ≡ shares_of from (length pieces) deals all
@@ -144,7 +144,7 @@ module _ (pages number : ℕ) (deals : List ℕ) (lines : List (Option Request))
   whole_piece p h =
       let mine : List ℕ = dealt p.output.share deals ns in let l = ns_long in
       let numbers_many : length mine ≡ length (dealt p.output.share deals lines) = dealt_long p.output.share deals ns lines (omega (arith, l)) (omega (arith, as_many)) in
-      let texts_many : length (replies mine p.answers) ≡ length mine = replies_long mine p.answers (zip_length (IsFor pages) (dealt p.output.share deals lines) p.answers h.each ∙ sym numbers_many) in record {
+      let texts_many : length (replies mine p.answers) ≡ length mine = replies_long mine p.answers (zip_length (IsFor (pages, pages)) (dealt p.output.share deals lines) p.answers h.each ∙ sym numbers_many) in record {
         many = ap length h.cuts ∙ (length-map (replies mine p.answers) length ∙ (texts_many ∙ dealt_long p.output.share deals ns deals (omega (arith, l)) (omega arith)));
         bytes = ap sum h.cuts ∙ (sum_lengths (replies mine p.answers) ∙ sym (ap length h.prints));
       }

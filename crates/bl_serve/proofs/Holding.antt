@@ -16,11 +16,13 @@ use Rattle.bl_index.proofs.Taken.{same_of}
 use Rattle.bl_serve.specs.Chunks.{Taken, IsTaken, IsChunk}
 use Rattle.bl_map.specs.Meetings.{Comes}
 use Rattle.bl_serve.specs.Meetings.{AllMeet}
-use Rattle.bl_serve.specs.declared.section_reader.SectionEnd.{SectionEnd}
-use Rattle.bl_serve.specs.declared.section_reader.SectionEnd.TheVariants.{ByLine, Rest, Finished}
+use Rattle.bl_serve_reading.specs.declared.section_reader.SectionEnd.{SectionEnd}
+use Rattle.bl_serve_reading.specs.declared.section_reader.SectionEnd.TheVariants.{ByLine, Rest, Finished}
 use Rattle.bl_serve_lines.specs.Text.{numbered}
 use Rattle.bl_serve.specs.Sections.{end_text}
-use Rattle.bl_serve.specs.Serving.{AreFrom, AreTogether, HoldsSection, ServesSection, seen_by}
+use Rattle.bl_serve.specs.declared.ground.Ground.{Ground}
+use Rattle.bl_serve.specs.Holding.{HoldsChunk, HoldsSection, ServesSection}
+use Rattle.bl_serve.specs.Serving.{AreFrom, AreTogether, seen_by}
 use Rattle.bl_serve_worker.proofs.Lines.{goes_on}
 use Rattle.bl_serve.proofs.Sections.{FitsFrom, section}
 
@@ -78,7 +80,7 @@ zip_long R [] (y ∷ ys) h = absurd h
 zip_long R (x ∷ xs) [] h = absurd h
 zip_long R (x ∷ xs) (y ∷ ys) h = ap suc (zip_long R xs ys h.1)
 
-pub holds : (index : Index) (done : ℕ) (lines : List (Option Request)) (text : List ℕ) (olds news met : List Pass) → 0 < length olds → AreTogether index (seen_by olds) olds → IsChunk (first_of index) (pages_of index) (suc done) lines text olds news → AllMeet (first_of index) news met → HoldsSection index done lines text olds met
+pub holds : (index : Index) (done : ℕ) (lines : List (Option Request)) (text : List ℕ) (olds news met : List Pass) → 0 < length olds → AreTogether index (seen_by olds) olds → IsChunk (first_of index) (pages_of index) (suc done) lines text olds news → AllMeet (first_of index) news met → HoldsChunk index done lines text olds met
 holds index done lines text olds news met some t r m =
     let first : List (Option Page) = first_of index in
     let old : Trail = seen_by olds in
@@ -99,15 +101,15 @@ holds index done lines text olds news met some t r m =
 -- ---- how the section ended
 
 -- it ended by its last line, or with the input
-pub plain_section : (index : Index) (done : ℕ) (lines : List (Option Request)) (end : SectionEnd) (text : List ℕ) (olds news : List Pass) → end ≢ Rest → HoldsSection index done lines text olds news → ServesSection index done lines end text olds news
-plain_section index done lines ByLine text olds news other h = record { answers = text; holds = h; ends = sym (append-nil text) }
-plain_section index done lines Rest text olds news other h = absurd (other refl)
-plain_section index done lines Finished text olds news other h = record { answers = text; holds = h; ends = sym (append-nil text) }
+pub plain_section : (pages : ℕ × ℕ) (old : Ground) (done : ℕ) (lines : List (Option Request)) (end : SectionEnd) (text : List ℕ) (olds : List Pass) (new : Ground) (news : List Pass) → end ≢ Rest → HoldsSection pages old done lines text olds new news → ServesSection pages old done lines end text olds new news
+plain_section pages old done lines ByLine text olds new news other h = record { answers = text; holds = h; ends = sym (append-nil text) }
+plain_section pages old done lines Rest text olds new news other h = absurd (other refl)
+plain_section pages old done lines Finished text olds new news other h = record { answers = text; holds = h; ends = sym (append-nil text) }
 
 -- with bytes behind the last LF, which are one line more
-pub rest_section : (index : Index) (done number : ℕ) (lines : List (Option Request)) (end : SectionEnd) (text : List ℕ) (olds news : List Pass) → end ≡ Rest → number ≡ done + length lines + 1 → HoldsSection index done lines text olds news
-    → ServesSection index done lines end (text ++ numbered number (codes "malformed")) olds news
-rest_section index done number lines end text olds news is at h = record {
+pub rest_section : (pages : ℕ × ℕ) (old : Ground) (done number : ℕ) (lines : List (Option Request)) (end : SectionEnd) (text : List ℕ) (olds : List Pass) (new : Ground) (news : List Pass) → end ≡ Rest → number ≡ done + length lines + 1 → HoldsSection pages old done lines text olds new news
+    → ServesSection pages old done lines end (text ++ numbered number (codes "malformed")) olds new news
+rest_section pages old done number lines end text olds new news is at h = record {
   answers = text;
   holds = h;
   ends = ap (λ (z : ℕ). text ++ numbered z (codes "malformed")) at ∙ ap (λ (z : SectionEnd). text ++ end_text z (done + length lines + 1)) (sym is);

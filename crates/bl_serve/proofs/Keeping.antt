@@ -59,7 +59,7 @@ not_true true other = absurd (other refl)
 not_true false other = refl
 
 -- the answer to a line has no operation on a key that the line is not on
-apart_of : {pages : ℕ} {asked : Option Request} {answer : Answer} (key : ℕ) → IsFor pages asked answer → ¬ IsOn key asked → on_key key (entries answer) ≡ []
+apart_of : {pages : ℕ × ℕ} {asked : Option Request} {answer : Answer} (key : ℕ) → IsFor pages asked answer → ¬ IsOn key asked → on_key key (entries answer) ≡ []
 apart_of key (Replies entry) off = go (is_on key entry.op) refl
   where
     go : (b : Bool) → is_on key entry.op ≡ b → on_key key (entry ∷ []) ≡ []
@@ -90,7 +90,7 @@ those_first key answer answers = on_key_append key (entries answer) (flat_map en
 
 module _ (pages count key : ℕ) (share_of : ℕ → ℕ) where
   -- a share that is not the key's has none of them
-  not_there : (deals : List ℕ) (lines : List (Option Request)) (all : List Answer) → AllZip (IsDealtSo count share_of) deals lines → AllZip (IsFor pages) lines all → (share : ℕ) → share ≢ share_of key → those_on key (dealt share deals all) ≡ []
+  not_there : (deals : List ℕ) (lines : List (Option Request)) (all : List Answer) → AllZip (IsDealtSo count share_of) deals lines → AllZip (IsFor (pages, pages)) lines all → (share : ℕ) → share ≢ share_of key → those_on key (dealt share deals all) ≡ []
   not_there [] lines all each fits share other = refl
   not_there (s ∷ deals) [] all each fits share other = absurd each
   not_there (s ∷ deals) (a ∷ lines) [] each fits share other = absurd fits
@@ -101,7 +101,7 @@ module _ (pages count key : ℕ) (share_of : ℕ → ℕ) where
       (cases_eq s share)
 
   -- its own has all, in the order of the lines
-  all_there : (deals : List ℕ) (lines : List (Option Request)) (all : List Answer) → AllZip (IsDealtSo count share_of) deals lines → AllZip (IsFor pages) lines all → those_on key (dealt (share_of key) deals all) ≡ those_on key all
+  all_there : (deals : List ℕ) (lines : List (Option Request)) (all : List Answer) → AllZip (IsDealtSo count share_of) deals lines → AllZip (IsFor (pages, pages)) lines all → those_on key (dealt (share_of key) deals all) ≡ those_on key all
   all_there [] [] [] each fits = refl
   all_there [] [] (answer ∷ all) each fits = absurd fits
   all_there [] (a ∷ lines) all each fits = absurd each
@@ -139,7 +139,7 @@ module _ (lists : List (List Entry)) (pieces sorted : List Piece) (are : lists �
       in_any_order b (map entries all) (IsPermutation-map entries (answers_in sorted) all perm_all)
 
   -- it has the operations on a key in the order of the lines
-  pub keeping : (pages count : ℕ) (deals : List ℕ) (lines : List (Option Request)) (all : List Answer) → AreDealt count lines deals → AllZip (IsFor pages) lines all → length sorted ≡ count → ((k : ℕ) → dealt k deals all ≡ hand_at sorted k) → (key : ℕ) → on_key key history ≡ on_key key (flat_map entries all)
+  pub keeping : (pages count : ℕ) (deals : List ℕ) (lines : List (Option Request)) (all : List Answer) → AreDealt count lines deals → AllZip (IsFor (pages, pages)) lines all → length sorted ≡ count → ((k : ℕ) → dealt k deals all ≡ hand_at sorted k) → (key : ℕ) → on_key key history ≡ on_key key (flat_map entries all)
   keeping pages count deals lines all d fits many hands key =
       let share : ℕ = d.share_of key in
       let s = split_at (λ answers. those_on key answers ≡ []) sorted share (let low = d.low key in omega (arith, low, many)) (λ k other. ap (those_on key) (sym (hands k)) ∙ not_there pages count key d.share_of deals lines all d.each fits k other) in

@@ -69,26 +69,11 @@ history_kept index seen passes pages any t c =
     append_cancel_left (own n seen) (entries_of_pass n (history_of more)) [] (sym (own_more seen c.whole more on.1 n) ∙ (same ∙ sym (append-nil (own n seen))))) in
     ap history_of on.1 ∙ (history_append seen more ∙ (ap (λ (z : List Entry). history_of seen ++ z) none ∙ append-nil (history_of seen)))
 
-pub hold_map : (index : Index) (seen : Trail) (passes : List Pass) (pages : List (Option Page)) → 0 < length passes → AreTogether index seen passes → Closes index passes pages → HoldMapAfter (first_map (first_of index)) (history_of seen) (pages_of index) pages
+pub hold_map : (index : Index) (seen : Trail) (passes : List Pass) (pages : List (Option Page)) → 0 < length passes → AreTogether index seen passes → Closes index passes pages → HoldMapAfter (first_map (first_of index)) (history_of seen) (pages_of index, pages_of index) pages
 hold_map index seen passes pages any t c = record {
-  count = c.count;
+  least = (let same = c.count in omega (arith, same));
+  most = (let same = c.count in omega (arith, same));
   rows = c.rows;
   are_rows = c.are_rows;
   same = subst (λ (z : List Entry). SameMap (final_map (first_map (first_of index)) z) (map_of c.rows)) (history_kept index seen passes pages any t c) c.map;
 }
-
--- ---- the image is that of what was served
-
--- an image with the map after the history, where there was memory for one
-abbrev pub Leaves : Map → List Entry → ℕ → Result Quiet AllocError → Type 0
-Leaves map history many closed = IfOk closed (λ quiet. HoldMapAfter map history many quiet.image.pages.items)
-
--- new passes have served, and then they were closed
-pub served_image : (how : Sectioning) (origin : Origin) (among : ℕ) (index : Index) (olds : List Pass) (now : Trail) (totals : Totals) (closed : Result Quiet AllocError) (input output : List ℕ)
-    → IsBegunFrom origin among index olds → ServedBy how (pages_of index) (first_of index) (seen_by olds) now input output totals → Leaves (first_map (first_of index)) (history_of now) (pages_of index) closed → DumpedFrom how origin totals closed input output
-served_image how origin among index olds now totals closed input output b s left =
-    let t : ServedBy how (pages_of index) (first_of index) [] now input output totals = subst (λ (z : Trail). ServedBy how (pages_of index) (first_of index) z now input output totals) b.unseen s in
-    let is = subst (λ (z : ℕ × Map). (served : Served how z.0 z.1 input output totals) × (history_of t.more ≡ whole_history served)) (λ i. (b.pages i, b.map i)) (t.served, t.history) in record {
-      from = record { rows = b.rows; are_rows = b.are_rows; served = is.0 };
-      holds = subst (λ (z : Map × List Entry × ℕ). Leaves z.0 z.1 z.2 closed) (λ i. (b.map i, (ap history_of t.begins ∙ is.1) i, b.pages i)) left;
-    }

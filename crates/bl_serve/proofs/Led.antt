@@ -17,7 +17,7 @@ use Rattle.bl_claims.specs.Seeing.{first_map, own, AreWithin}
 use Rattle.bl_index.specs.declared.index.Index.{Index}
 use Rattle.bl_index.specs.declared.index.Pass.{Pass}
 use Rattle.bl_index.specs.Calls.{first_of, map_after, number_of, trail}
-use Rattle.bl_serve.specs.Noting.{HaveNoted}
+use Rattle.bl_serve.specs.Noting.{HaveNoted, StillLead}
 use Rattle.bl_serve.specs.Serving.{AreFrom, AreTogether}
 use Rattle.bl_serve.proofs.Holding.{all_within}
 use Rattle.bl_serve.proofs.Sections.{all_below}
@@ -76,15 +76,31 @@ abbrev pub HistoriesLead : Type 0
 HistoriesLead = (m : Map) (entries : List Entry) → IsLegalFrom m entries → Leads (all_came entries) (all_went entries) m (final_map m entries)
 
 -- what passes have noted, which had met and have met again, leads from the map that they had seen to that which they see
-pub leads : HistoriesLead → (index : Index) (base now : Trail) (olds news : List Pass) (changes : Changes) → 0 < length olds → 0 < length news → AreTogether index base olds → AreTogether index now news → HaveNoted olds news changes
-    → Leads changes.came.items changes.went.items (map_after (first_of index) base) (map_after (first_of index) now)
-leads law index base now olds news changes some many met again noted key value =
+pub leads : HistoriesLead → (index : Index) (base now : Trail) (olds news : List Pass) (came went : List (ℕ × ℕ)) → 0 < length olds → 0 < length news → AreTogether index base olds → AreTogether index now news → HaveNoted olds news came went
+    → Leads came went (map_after (first_of index) base) (map_after (first_of index) now)
+leads law index base now olds news came went some many met again noted key value =
     let came_before = counted_together (λ (e : Entry). came_of e.op e.reply) index base olds key value some met in
     let came_now = counted_together (λ (e : Entry). came_of e.op e.reply) index now news key value many again in
     let went_before = counted_together (λ (e : Entry). went_of e.op e.reply) index base olds key value some met in
     let went_now = counted_together (λ (e : Entry). went_of e.op e.reply) index now news key value many again in
-    let came = noted.came key value in
-    let went = noted.went key value in
+    let came = noted.came_are key value in
+    let went = noted.went_are key value in
     let was = law (first_map (first_of index)) (history_of base) met.may_be.legal key value in
     let is = law (first_map (first_of index)) (history_of now) again.may_be.legal key value in
     omega (arith, came_before, came_now, went_before, went_now, came, went, was, is)
+
+-- nothing came and nothing went
+pub leads_nowhere : (came went : List (ℕ × ℕ)) (m : Map) → came ≡ [] → went ≡ [] → Leads came went m m
+leads_nowhere came went m no_came no_went key value =
+    let a = ap (λ (z : List (ℕ × ℕ)). times key value z) no_came in
+    let b = ap (λ (z : List (ℕ × ℕ)). times key value z) no_went in
+    omega (arith, a, b)
+
+-- what was noted behind what led to a map leads on from there
+pub leads_more : (noted more : Changes) (came went : List (ℕ × ℕ)) (old new : Map) → more.came.items ≡ noted.came.items ++ came → more.went.items ≡ noted.went.items ++ went → Leads came went old new → StillLead noted old more new
+leads_more noted more came went old new came_is went_is one first so_far key value =
+    let a = so_far key value in
+    let b = one key value in
+    let d = ap (λ (z : List (ℕ × ℕ)). times key value z) came_is ∙ times-append key value noted.came.items came in
+    let e = ap (λ (z : List (ℕ × ℕ)). times key value z) went_is ∙ times-append key value noted.went.items went in
+    omega (arith, a, b, d, e)

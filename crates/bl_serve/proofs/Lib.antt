@@ -11,7 +11,6 @@ pub mod Finite
 pub mod Spelled
 pub mod Advance
 pub mod Holding
-pub mod Cutting
 pub mod Faults
 pub mod Continuing
 pub mod Beginning
@@ -19,3 +18,9 @@ pub mod Leaving
 pub mod Noting
 pub mod Led
 pub mod Surviving
+pub mod Doubling
+pub mod Standing
+pub mod Wider
+pub mod Lent
+pub mod Owned
+pub mod Chunked

@@ -21,7 +21,7 @@ use Rattle.bl_serve_worker.specs.declared.chunk.Slot.{Slot}
 use Rattle.bl_serve_worker.specs.Noting.{HasNoted}
 use Rattle.bl_serve.specs.Chunks.{WorkOn}
 use Rattle.bl_serve.specs.Meetings.{AllMeet}
-use Rattle.bl_serve.specs.Noting.{came_by, went_by, HaveNoted, StillNote}
+use Rattle.bl_serve.specs.Noting.{came_by, went_by, HaveNoted, NoteMore}
 
 -- rows of one after another
 counted : {A : Type 0} (key value : ℕ) (f : A → List (ℕ × ℕ)) (x : A) (xs : List A) → times key value (flat_map f (x ∷ xs)) ≡ times key value (f x) + times key value (flat_map f xs)
@@ -77,19 +77,17 @@ went_all number deals lines (o ∷ os) (n ∷ ns) (s ∷ ss) key value h ok =
     let d = counted key value (λ (x : Slot). x.changes.went.items) s ss in
     omega (arith, one, more, a, b, d)
 
-pub still_note : (number : ℕ) (deals : List ℕ) (lines : List (Option Request)) (olds news : List Handle) (slots : List Slot) (noted more : Changes) → WorkOn true number deals lines olds news slots → All (λ (s : Slot). s.failed ≡ false) slots
-    → more.came.items ≡ noted.came.items ++ came_in slots → more.went.items ≡ noted.went.items ++ went_in slots → StillNote (seats_of olds) noted (seats_of news) more
-still_note number deals lines olds news slots noted more turns ok came went before h = record {
-  came = λ key value.
-      let now = came_all number deals lines olds news slots key value turns ok in
-      let was = h.came key value in
-      let both = ap (λ (z : List (ℕ × ℕ)). times key value z) came ∙ times-append key value noted.came.items (came_in slots) in
-      omega (arith, now, was, both);
-  went = λ key value.
-      let now = went_all number deals lines olds news slots key value turns ok in
-      let was = h.went key value in
-      let both = ap (λ (z : List (ℕ × ℕ)). times key value z) went ∙ times-append key value noted.went.items (went_in slots) in
-      omega (arith, now, was, both);
+pub notes_more : (number : ℕ) (deals : List ℕ) (lines : List (Option Request)) (olds news : List Handle) (slots : List Slot) (noted more : Changes) → WorkOn true number deals lines olds news slots → All (λ (s : Slot). s.failed ≡ false) slots
+    → more.came.items ≡ noted.came.items ++ came_in slots → more.went.items ≡ noted.went.items ++ went_in slots → NoteMore (seats_of olds) noted (seats_of news) more
+notes_more number deals lines olds news slots noted more turns ok came went = record {
+  came = came_in slots;
+  went = went_in slots;
+  came_is = came;
+  went_is = went;
+  have = record {
+    came_are = λ key value. came_all number deals lines olds news slots key value turns ok;
+    went_are = λ key value. went_all number deals lines olds news slots key value turns ok;
+  };
 }
 
 -- ---- when all have met
@@ -112,16 +110,14 @@ went_met seen (p ∷ ps) (q ∷ qs) h =
     ap (λ (z : List _). all_went z ++ went_by qs) one ∙ ap (λ (z : List (ℕ × ℕ)). all_went (own (number_of p) (trail p)) ++ z) (went_met seen ps qs h.1)
 
 -- so all is noted still
-pub notes_met : (first : List (Option Page)) (before olds news : List Pass) (changes : Changes) → AllMeet first olds news → HaveNoted before olds changes → HaveNoted before news changes
-notes_met first before olds news changes m h = record {
-  came = λ key value. ap (λ (z : List (ℕ × ℕ)). times key value z) (came_met m.seen olds news m.each) ∙ h.came key value;
-  went = λ key value. ap (λ (z : List (ℕ × ℕ)). times key value z) (went_met m.seen olds news m.each) ∙ h.went key value;
-}
-
--- ---- when a section begins
-
-pub nothing_noted : (passes : List Pass) (changes : Changes) → changes.came.items ≡ [] → changes.went.items ≡ [] → HaveNoted passes passes changes
-nothing_noted passes changes came went = record {
-  came = λ key value. let none = ap (λ (z : List (ℕ × ℕ)). times key value z) came in omega (arith, none);
-  went = λ key value. let none = ap (λ (z : List (ℕ × ℕ)). times key value z) went in omega (arith, none);
+pub notes_met : (first : List (Option Page)) (before olds news : List Pass) (noted more : Changes) → AllMeet first olds news → NoteMore before noted olds more → NoteMore before noted news more
+notes_met first before olds news noted more m h = record {
+  came = h.came;
+  went = h.went;
+  came_is = h.came_is;
+  went_is = h.went_is;
+  have = record {
+    came_are = λ key value. ap (λ (z : List (ℕ × ℕ)). times key value z) (came_met m.seen olds news m.each) ∙ h.have.came_are key value;
+    went_are = λ key value. ap (λ (z : List (ℕ × ℕ)). times key value z) (went_met m.seen olds news m.each) ∙ h.have.went_are key value;
+  };
 }

@@ -176,18 +176,18 @@ module _ (keeps : Bool) (first : List (Option Page)) (pages number : ℕ) (deals
   record Answered (count : ℕ) (pieces : List Piece) : Type 0 where
     all : List Answer
     long : length all ≡ length lines
-    fits : AllZip (IsFor pages) lines all
+    fits : AllZip (IsFor (pages, pages)) lines all
     hands : (k : ℕ) → dealt k deals all ≡ hand_at pieces k
     same : IsPermutation (answers_in pieces) all
 
   answered : (count : ℕ) (pieces : List Piece) → length lines ≡ length deals → All (λ s. s < count) deals → map (λ p. p.output.share) pieces ≡ numbers 0 count → All (IsPiece pages number deals lines) pieces → Answered count pieces
   answered count pieces as_many low are each =
       let many : length pieces ≡ count = sym (length-map pieces (λ (p : Piece). p.output.share)) ∙ (ap length are ∙ numbers_long 0 count) in
-      let for : (k : ℕ) → AllZip (IsFor pages) (dealt k deals lines) (hand_at pieces k) = each_hand pages number deals lines count pieces are each low in
-      let r = regathers deals lines (hand_at pieces) as_many (λ k. zip_length (IsFor pages) (dealt k deals lines) (hand_at pieces k) (for k)) in record {
+      let for : (k : ℕ) → AllZip (IsFor (pages, pages)) (dealt k deals lines) (hand_at pieces k) = each_hand pages number deals lines count pieces are each low in
+      let r = regathers deals lines (hand_at pieces) as_many (λ k. zip_length (IsFor (pages, pages)) (dealt k deals lines) (hand_at pieces k) (for k)) in record {
         all = r.all;
         long = r.long ∙ sym as_many;
-        fits = all_pairs (IsFor pages) deals lines r.all as_many r.long (λ k. subst (AllZip (IsFor pages) (dealt k deals lines)) (sym (r.each k)) (for k));
+        fits = all_pairs (IsFor (pages, pages)) deals lines r.all as_many r.long (λ k. subst (AllZip (IsFor (pages, pages)) (dealt k deals lines)) (sym (r.each k)) (for k));
         hands = r.each;
         same = subst (λ (z : List Answer). IsPermutation z r.all) (sym (all_hands count deals r.all pieces many r.each)) (all_shares count deals r.all r.long low);
       }

@@ -34,8 +34,8 @@ use Rattle.bl_serve_lines.specs.declared.serving.Sectioning.TheVariants.{BySync,
 use Rattle.bl_serve_lines.specs.Served.{Ends, IsShort, HasNoEnd, malformed_of, syncs_of}
 use Rattle.bl_serve_worker.specs.Answering.{IsFor, answers_text}
 use Rattle.bl_serve_worker.specs.Answering.IsFor.{Replies, Sums, Scans, States, Syncs, Refuses}
-use Rattle.bl_serve.specs.Reading.{IsReadAs, bytes_of, AsksEnd, AskNoEnd, AskEndLast}
-use Rattle.bl_serve.specs.Sections.{is_sync}
+use Rattle.bl_serve_reading.specs.Reading.{IsReadAs, bytes_of, AsksEnd, AskNoEnd, AskEndLast}
+use Rattle.bl_serve_reading.specs.Syncs.{is_sync}
 use Rattle.bl_serve.proofs.Finite.{IsFinite, finite_step, finite_history}
 
 abbrev pub lines_with : List (List ℕ) → List Answer → List Line
@@ -43,7 +43,7 @@ lines_with [] answers = []
 lines_with (text ∷ texts) [] = []
 lines_with (text ∷ texts) (answer ∷ answers) = record { bytes = text; answer = answer } ∷ lines_with texts answers
 
-fits_one : {pages : ℕ} {asked : Option Request} {answer : Answer} → IsFor pages asked answer → (bytes : List ℕ) → Means bytes asked → Fits pages bytes answer
+fits_one : {pages : ℕ × ℕ} {asked : Option Request} {answer : Answer} → IsFor pages asked answer → (bytes : List ℕ) → Means bytes asked → Fits pages bytes answer
 fits_one (Replies entry) bytes m = m
 fits_one (Sums key number es reply adds) bytes m = (m, adds)
 fits_one (Scans asked parts are) bytes m = (m, are)
@@ -51,7 +51,7 @@ fits_one (States all used free room) bytes m = (m, room)
 fits_one Syncs bytes m = m
 fits_one Refuses bytes m = m
 
-malformed_one : {pages : ℕ} {asked : Option Request} {answer : Answer} → IsFor pages asked answer → malformed_of answer ≡ count_by is_none (asked ∷ [])
+malformed_one : {pages : ℕ × ℕ} {asked : Option Request} {answer : Answer} → IsFor pages asked answer → malformed_of answer ≡ count_by is_none (asked ∷ [])
 malformed_one (Replies entry) = refl
 malformed_one (Sums key number es reply adds) = refl
 malformed_one (Scans asked parts are) = refl
@@ -59,7 +59,7 @@ malformed_one (States all used free room) = refl
 malformed_one Syncs = refl
 malformed_one Refuses = refl
 
-not_synced : {pages : ℕ} {asked : Option Request} {answer : Answer} → IsFor pages asked answer → asked ≢ Some Sync → answer ≢ Synced
+not_synced : {pages : ℕ × ℕ} {asked : Option Request} {answer : Answer} → IsFor pages asked answer → asked ≢ Some Sync → answer ≢ Synced
 not_synced (Replies entry) other e = let no : ⊥ = cc in no
 not_synced (Sums key number es reply adds) other e = let no : ⊥ = cc in no
 not_synced (Scans asked parts are) other e = let no : ⊥ = cc in no
@@ -67,7 +67,7 @@ not_synced (States all used free room) other e = let no : ⊥ = cc in no
 not_synced Syncs other e = other refl
 not_synced Refuses other e = let no : ⊥ = cc in no
 
-is_synced : {pages : ℕ} {asked : Option Request} {answer : Answer} → IsFor pages asked answer → asked ≡ Some Sync → answer ≡ Synced
+is_synced : {pages : ℕ × ℕ} {asked : Option Request} {answer : Answer} → IsFor pages asked answer → asked ≡ Some Sync → answer ≡ Synced
 is_synced (Replies entry) e = let no : ⊥ = cc in absurd no
 is_synced (Sums key number es reply adds) e = let no : ⊥ = cc in absurd no
 is_synced (Scans asked parts are) e = let no : ⊥ = cc in absurd no
@@ -76,12 +76,12 @@ is_synced Syncs e = refl
 is_synced Refuses e = let no : ⊥ = cc in absurd no
 
 -- a line ends a section as its request does
-answers_end : (how : Sectioning) (count : ℕ) {pages : ℕ} {asked : Option Request} {answer : Answer} → IsFor pages asked answer → AsksEnd how count asked → Ends how count answer
+answers_end : (how : Sectioning) (count : ℕ) {pages : ℕ × ℕ} {asked : Option Request} {answer : Answer} → IsFor pages asked answer → AsksEnd how count asked → Ends how count answer
 answers_end BySync count f is = is_synced f is
 answers_end (AtMost most) count f (inl is) = inl (is_synced f is)
 answers_end (AtMost most) count f (inr many) = inr many
 
-synced_one : {pages : ℕ} {asked : Option Request} {answer : Answer} → IsFor pages asked answer → syncs_of answer ≡ count_by is_sync (asked ∷ [])
+synced_one : {pages : ℕ × ℕ} {asked : Option Request} {answer : Answer} → IsFor pages asked answer → syncs_of answer ≡ count_by is_sync (asked ∷ [])
 synced_one (Replies entry) = refl
 synced_one (Sums key number es reply adds) = refl
 synced_one (Scans asked parts are) = refl
@@ -93,7 +93,7 @@ count_cons : (test : Option Request → Bool) (a : Option Request) (l : List (Op
 count_cons test a l = grind (arith, common_steps)
 
 -- what is known of the lines that were read and answered
-pub record AreLines (pages : ℕ) (asked : List (Option Request)) (texts : List (List ℕ)) (answers : List Answer) : Type 0 where
+pub record AreLines (pages : ℕ × ℕ) (asked : List (Option Request)) (texts : List (List ℕ)) (answers : List Answer) : Type 0 where
   pub good : All (IsLine pages) (lines_with texts answers)
   pub entries_are : map (λ line. entries line.answer) (lines_with texts answers) ≡ map entries answers
   pub all_entries : flat_map (λ line. entries line.answer) (lines_with texts answers) ≡ flat_map entries answers
@@ -103,7 +103,7 @@ pub record AreLines (pages : ℕ) (asked : List (Option Request)) (texts : List 
   pub malformed : sum_by (λ line. malformed_of line.answer) (lines_with texts answers) ≡ count_by is_none asked
   pub syncs : sum_by (λ line. syncs_of line.answer) (lines_with texts answers) ≡ count_by is_sync asked
 
-pub are_lines : (pages : ℕ) (asked : List (Option Request)) (texts : List (List ℕ)) (answers : List Answer) → AllZip IsReadAs asked texts → AllZip (IsFor pages) asked answers → AreLines pages asked texts answers
+pub are_lines : (pages : ℕ × ℕ) (asked : List (Option Request)) (texts : List (List ℕ)) (answers : List Answer) → AllZip IsReadAs asked texts → AllZip (IsFor pages) asked answers → AreLines pages asked texts answers
 are_lines pages [] [] [] h k = record { good = All-nil (IsLine pages); entries_are = refl; all_entries = refl; input = refl; output = λ n. refl; long = refl; malformed = refl; syncs = refl }
 are_lines pages [] [] (answer ∷ answers) h k = absurd k
 are_lines pages [] (text ∷ texts) answers h k = absurd h
@@ -122,7 +122,7 @@ are_lines pages (a ∷ asked) (text ∷ texts) (answer ∷ answers) h k = let r 
       let s : sum_by f (line ∷ lines_with texts answers) ≡ f line + sum_by f (lines_with texts answers) = grind (arith, common_steps) in omega (arith, one, more, c, s);
 }
 
-no_sync_lines : (pages : ℕ) (asked : List (Option Request)) (texts : List (List ℕ)) (answers : List Answer) → AllZip IsReadAs asked texts → AllZip (IsFor pages) asked answers → All (λ a. a ≢ Some Sync) asked → All (λ line. line.answer ≢ Synced) (lines_with texts answers)
+no_sync_lines : (pages : ℕ × ℕ) (asked : List (Option Request)) (texts : List (List ℕ)) (answers : List Answer) → AllZip IsReadAs asked texts → AllZip (IsFor pages) asked answers → All (λ a. a ≢ Some Sync) asked → All (λ line. line.answer ≢ Synced) (lines_with texts answers)
 no_sync_lines pages [] [] answers h k none = All-nil (λ line. line.answer ≢ Synced)
 no_sync_lines pages [] (text ∷ texts) answers h k none = absurd h
 no_sync_lines pages (a ∷ asked) [] answers h k none = absurd h
@@ -130,7 +130,7 @@ no_sync_lines pages (a ∷ asked) (text ∷ texts) [] h k none = absurd k
 no_sync_lines pages (a ∷ asked) (text ∷ texts) (answer ∷ answers) h k none = All-cons (λ line. line.answer ≢ Synced) (record { bytes = text; answer = answer }) (lines_with texts answers)
     (not_synced k.0 (All-head (λ (z : Option Request). z ≢ Some Sync) a asked none)) (no_sync_lines pages asked texts answers h.1 k.1 (All-tail (λ (z : Option Request). z ≢ Some Sync) a asked none))
 
-pub no_end_lines : (how : Sectioning) (pages : ℕ) (asked : List (Option Request)) (texts : List (List ℕ)) (answers : List Answer) → AllZip IsReadAs asked texts → AllZip (IsFor pages) asked answers → AskNoEnd how asked → HasNoEnd how (lines_with texts answers)
+pub no_end_lines : (how : Sectioning) (pages : ℕ × ℕ) (asked : List (Option Request)) (texts : List (List ℕ)) (answers : List Answer) → AllZip IsReadAs asked texts → AllZip (IsFor pages) asked answers → AskNoEnd how asked → HasNoEnd how (lines_with texts answers)
 no_end_lines how pages asked texts answers h k no_end = (no_sync_lines pages asked texts answers h k no_end.0, subst (IsShort how) (sym (are_lines pages asked texts answers h k).long) no_end.1)
 
 -- the last line ends a section, and no other does
@@ -142,7 +142,7 @@ pub record EndsLast (how : Sectioning) (lines : List Line) : Type 0 where
   pub no_end : HasNoEnd how front
 
 -- the last line, and the others
-record Parted (pages : ℕ) (front : List (Option Request)) (last : Option Request) (lines : List Line) : Type 0 where
+record Parted (pages : ℕ × ℕ) (front : List (Option Request)) (last : Option Request) (lines : List Line) : Type 0 where
   first : List Line
   end : Line
   ends : lines ≡ first ++ end ∷ []
@@ -150,7 +150,7 @@ record Parted (pages : ℕ) (front : List (Option Request)) (last : Option Reque
   fits : IsFor pages last end.answer
   none : All (λ a. a ≢ Some Sync) front → All (λ line. line.answer ≢ Synced) first
 
-parted : (pages : ℕ) (front : List (Option Request)) (last : Option Request) (texts : List (List ℕ)) (answers : List Answer) → AllZip IsReadAs (front ++ last ∷ []) texts → AllZip (IsFor pages) (front ++ last ∷ []) answers → Parted pages front last (lines_with texts answers)
+parted : (pages : ℕ × ℕ) (front : List (Option Request)) (last : Option Request) (texts : List (List ℕ)) (answers : List Answer) → AllZip IsReadAs (front ++ last ∷ []) texts → AllZip (IsFor pages) (front ++ last ∷ []) answers → Parted pages front last (lines_with texts answers)
 parted pages [] last [] answers h k = absurd h
 parted pages [] last (text ∷ texts) [] h k = absurd k
 parted pages [] last (text ∷ []) (answer ∷ answers) h k = record { first = []; end = record { bytes = text; answer = answer }; ends = refl; long = refl; fits = k.0; none = λ _. All-nil (λ line. line.answer ≢ Synced) }
@@ -166,7 +166,7 @@ parted pages (a ∷ front) last (text ∷ texts) (answer ∷ answers) h k = let 
   none = λ none. All-cons (λ line. line.answer ≢ Synced) line r.first (not_synced k.0 (All-head (λ (z : Option Request). z ≢ Some Sync) a front none)) (r.none (All-tail (λ (z : Option Request). z ≢ Some Sync) a front none));
 }
 
-pub end_lines : (how : Sectioning) (pages : ℕ) (asked : List (Option Request)) (texts : List (List ℕ)) (answers : List Answer) → AllZip IsReadAs asked texts → AllZip (IsFor pages) asked answers → AskEndLast how asked → EndsLast how (lines_with texts answers)
+pub end_lines : (how : Sectioning) (pages : ℕ × ℕ) (asked : List (Option Request)) (texts : List (List ℕ)) (answers : List Answer) → AllZip IsReadAs asked texts → AllZip (IsFor pages) asked answers → AskEndLast how asked → EndsLast how (lines_with texts answers)
 end_lines how pages asked texts answers h k s =
     let p = parted pages s.front s.last texts answers (subst (λ (z : List (Option Request)). AllZip IsReadAs z texts) s.ends h) (subst (λ (z : List (Option Request)). AllZip (IsFor pages) z answers) s.ends k) in
     let long = (are_lines pages asked texts answers h k).long in record {
@@ -380,20 +380,20 @@ lawful_sum m key number = go (m key) refl
       legal = (is, (is, tt));
     }
 
-pub record Lawful (pages : ℕ) (m : Map) (asked : List (Option Request)) : Type 0 where
+pub record Lawful (pages : ℕ × ℕ) (m : Map) (asked : List (Option Request)) : Type 0 where
   pub answers : List Answer
   pub each : AllZip (IsFor pages) asked answers
   pub legal : IsLegalFrom m (flat_map entries answers)
 
-pub lawful : (pages : ℕ) (m : Map) → IsFinite m → (asked : List (Option Request)) (texts : List (List ℕ)) → AllZip IsReadAs asked texts → Lawful pages m asked
-lawful pages m f [] texts h = record { answers = []; each = tt; legal = tt }
-lawful pages m f (a ∷ asked) [] h = absurd h
-lawful pages m f (None ∷ asked) (text ∷ texts) h = let r = lawful pages m f asked texts h.1 in record { answers = Malformed ∷ r.answers; each = (Refuses, r.each); legal = r.legal }
-lawful pages m f (Some Stat ∷ asked) (text ∷ texts) h = let r = lawful pages m f asked texts h.1 in record { answers = Stated pages 0 0 ∷ r.answers; each = (States pages 0 0 (refl, omega arith), r.each); legal = r.legal }
-lawful pages m f (Some Sync ∷ asked) (text ∷ texts) h = let r = lawful pages m f asked texts h.1 in record { answers = Synced ∷ r.answers; each = (Syncs, r.each); legal = r.legal }
-lawful pages m f (Some (Ask op) ∷ asked) (text ∷ texts) h = let one = some_reply m text op h.0.means in let e : Entry = record { pass = 0; op = op; reply = one.0 } in
-    let r = lawful pages (map_step op one.0 m) (finite_step op one.0 m f) asked texts h.1 in record { answers = Replied e ∷ r.answers; each = (Replies e, r.each); legal = (one.1, r.legal) }
-lawful pages m f (Some (Add key number) ∷ asked) (text ∷ texts) h = let p = lawful_sum m key number in let r = lawful pages (final_map m p.es) (finite_history m p.es f) asked texts h.1 in
+pub lawful : (pages : ℕ × ℕ) → pages.0 ≤ pages.1 → (m : Map) → IsFinite m → (asked : List (Option Request)) (texts : List (List ℕ)) → AllZip IsReadAs asked texts → Lawful pages m asked
+lawful pages some m f [] texts h = record { answers = []; each = tt; legal = tt }
+lawful pages some m f (a ∷ asked) [] h = absurd h
+lawful pages some m f (None ∷ asked) (text ∷ texts) h = let r = lawful pages some m f asked texts h.1 in record { answers = Malformed ∷ r.answers; each = (Refuses, r.each); legal = r.legal }
+lawful pages some m f (Some Stat ∷ asked) (text ∷ texts) h = let r = lawful pages some m f asked texts h.1 in record { answers = Stated pages.0 0 0 ∷ r.answers; each = (States pages.0 0 0 (omega arith, some, omega arith), r.each); legal = r.legal }
+lawful pages some m f (Some Sync ∷ asked) (text ∷ texts) h = let r = lawful pages some m f asked texts h.1 in record { answers = Synced ∷ r.answers; each = (Syncs, r.each); legal = r.legal }
+lawful pages some m f (Some (Ask op) ∷ asked) (text ∷ texts) h = let one = some_reply m text op h.0.means in let e : Entry = record { pass = 0; op = op; reply = one.0 } in
+    let r = lawful pages some (map_step op one.0 m) (finite_step op one.0 m f) asked texts h.1 in record { answers = Replied e ∷ r.answers; each = (Replies e, r.each); legal = (one.1, r.legal) }
+lawful pages some m f (Some (Add key number) ∷ asked) (text ∷ texts) h = let p = lawful_sum m key number in let r = lawful pages some (final_map m p.es) (finite_history m p.es f) asked texts h.1 in
     record { answers = Added key number p.es p.reply ∷ r.answers; each = (Sums key number p.es p.reply p.adds, r.each); legal = legal_append m p.es (flat_map entries r.answers) p.legal r.legal }
-lawful pages m f (Some (Scan its) ∷ asked) (text ∷ texts) h = let p = lawful_listing m f its in let r = lawful pages (final_map m p.parts) (finite_history m p.parts f) asked texts h.1 in
+lawful pages some m f (Some (Scan its) ∷ asked) (text ∷ texts) h = let p = lawful_listing m f its in let r = lawful pages some (final_map m p.parts) (finite_history m p.parts f) asked texts h.1 in
     record { answers = Scanned its p.parts ∷ r.answers; each = (Scans its p.parts p.are, r.each); legal = legal_append m p.parts (flat_map entries r.answers) p.legal r.legal }

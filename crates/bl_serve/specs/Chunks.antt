@@ -39,7 +39,7 @@ KeepsOrder taken answers = (history : List Entry) → Interleaves (flat_map (λ 
 -- The lines were answered by these passes, and the text prints the answers.
 pub record IsChunk (first : List (Option Page)) (pages number : ℕ) (lines : List (Option Request)) (text : List ℕ) (old new : List Pass) : Type 0 where
   pub answers : List Answer
-  pub each : AllZip (IsFor pages) lines answers
+  pub each : AllZip (IsFor (pages, pages)) lines answers
   pub prints : text ≡ answers_text number answers
   pub taken : List Taken
   pub old_are : map (λ t. t.old) taken ≡ old

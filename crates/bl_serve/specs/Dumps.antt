@@ -1,5 +1,5 @@
 -- The image that a server leaves.
-use Rattle.std.specs.Prelude.{◌≡◌, ℕ, List, Option, Result, IfOk, length}
+use Rattle.std.specs.Prelude.{◌≤◌, ℕ, List, Option, Result, IfOk, length}
 use Rattle.bl_model.specs.Map.{Map, SameMap}
 use Rattle.bl_model.specs.History.{final_map}
 use Rattle.bl_model.specs.Rows.{map_of}
@@ -11,16 +11,20 @@ use Rattle.bl_serve_lines.specs.declared.serving.Sectioning.{Sectioning}
 use Rattle.bl_serve_lines.specs.declared.serving.Totals.{Totals}
 use Rattle.bl_serve_lines.specs.Served.{whole_history}
 use Rattle.bl_serve.specs.declared.origin.Origin.{Origin}
-use Rattle.bl_serve.specs.Origins.{size_of, ServedFrom}
+use Rattle.bl_serve.specs.Growing.{IsDoubled}
+use Rattle.bl_serve.specs.Origins.{size_of, sizes_of, ServedFrom}
 
--- There are so many pages, and their rows are the map after the history, from that map on.
-pub record HoldMapAfter (map : Map) (history : List Entry) (many : ℕ) (pages : List (Option Page)) : Type 0 where
-  pub count : length pages ≡ many
+-- There are so many pages at least, and at most, and their rows are the map after the history, from that map on.
+pub record HoldMapAfter (map : Map) (history : List Entry) (sizes : ℕ × ℕ) (pages : List (Option Page)) : Type 0 where
+  pub least : sizes.0 ≤ length pages
+  pub most : length pages ≤ sizes.1
   pub rows : List (ℕ × ℕ)
   pub are_rows : AreRowsOf pages rows
   pub same : SameMap (final_map map history) (map_of rows)
 
--- The input was served from there on, and the image, if there was memory for it, holds the map after that.
-pub record DumpedFrom {E : Type 0} (how : Sectioning) (origin : Origin) (totals : Totals) (image : Result Quiet E) (input output : List ℕ) : Type 0 where
-  pub from : ServedFrom how origin totals input output
-  pub holds : IfOk image (λ quiet. HoldMapAfter (map_of from.rows) (whole_history from.served) (size_of origin) quiet.image.pages.items)
+-- The input was served from there on, and the image, if there was memory for it, holds the map after that, in the pages of the beginning, doubled some
+-- times.
+pub record DumpedFrom {E : Type 0} (how : Sectioning) (origin : Origin) (most : ℕ) (totals : Totals) (image : Result Quiet E) (input output : List ℕ) : Type 0 where
+  pub from : ServedFrom how origin most totals input output
+  pub sizes : IfOk image (λ quiet. IsDoubled (size_of origin) (sizes_of origin most).1 (length quiet.image.pages.items))
+  pub holds : IfOk image (λ quiet. HoldMapAfter (map_of from.rows) (whole_history from.served) (sizes_of origin most) quiet.image.pages.items)

@@ -3,9 +3,11 @@ pub mod Joining
 pub mod Chunks
 pub mod Meetings
 pub mod Noting
-pub mod Reading
 pub mod Sections
 pub mod Serving
+pub mod Standing
+pub mod Growing
+pub mod Holding
 pub mod Surviving
 pub mod Origins
 pub mod Dumps

@@ -1,5 +1,5 @@
 -- What a server begins with, and serving from there on.
-use Rattle.std.specs.Prelude.{◌≡◌, ◌≤◌, ◌+◌, ◌^◌, ℕ, List, [], length}
+use Rattle.std.specs.Prelude.{◌≡◌, ◌≤◌, ◌+◌, ◌^◌, max, ℕ, List, [], length}
 use Rattle.bl_model.specs.Rows.{map_of}
 use Rattle.bl_check.specs.Rows.{AreRowsOf}
 use Rattle.bl_serve_lines.specs.declared.serving.Sectioning.{Sectioning}
@@ -16,9 +16,9 @@ abbrev pub HasPages : Origin → Type 0
 HasPages (Empty pages) = (4 ≤ pages) × (pages ≤ 2 ^ 28)
 HasPages (Image quiet) = Unit {0}
 
--- it has a worker, and 64 threads at most
+-- it has a worker, and 64 threads at most, and grows to no more pages than an index may have
 abbrev pub MayServe : ServePlan → Type 0
-MayServe plan = (1 ≤ plan.workers) × (plan.workers + plan.compressors ≤ 64)
+MayServe plan = (1 ≤ plan.workers) × (plan.workers + plan.compressors ≤ 64) × (plan.most ≤ 2 ^ 28)
 
 -- how many pages the index has
 abbrev pub size_of : Origin → ℕ
@@ -30,15 +30,19 @@ abbrev pub HasRows : Origin → List (ℕ × ℕ) → Type 0
 HasRows (Empty pages) rows = rows ≡ []
 HasRows (Image quiet) rows = AreRowsOf quiet.image.pages.items rows
 
--- The input is served from the map of those rows on, by an index of as many pages.
-pub record ServedFrom (how : Sectioning) (origin : Origin) (totals : Totals) (input output : List ℕ) : Type 0 where
+-- how many pages it has from then on, at least and at most, where it may grow to so many
+abbrev pub sizes_of : Origin → ℕ → ℕ × ℕ
+sizes_of origin most = (size_of origin, max (size_of origin) most)
+
+-- The input is served from the map of those rows on, by an index that begins with as many pages, and has so many at least and at most.
+pub record ServedFrom (how : Sectioning) (origin : Origin) (most : ℕ) (totals : Totals) (input output : List ℕ) : Type 0 where
   pub rows : List (ℕ × ℕ)
   pub are_rows : HasRows origin rows
-  pub served : Served how (size_of origin) (map_of rows) input output totals
+  pub served : Served how (sizes_of origin most) (map_of rows) input output totals
 
 -- Serving stopped: there was no memory for the index, and nothing was read or written; or it stopped as it served from the map
 -- of those rows on.
-pub data StopsFrom (how : Sectioning) (origin : Origin) (input output : List ℕ) (fault : ServeFault) (reader_failed writer_failed : Type 0) : Type 0 where
-  Unopened : input ≡ [] → output ≡ [] → fault ≡ Memory → StopsFrom how origin input output fault reader_failed writer_failed
-  Stopped : (rows : List (ℕ × ℕ)) → HasRows origin rows → Stops how (size_of origin) (map_of rows) input output fault reader_failed writer_failed
-      → StopsFrom how origin input output fault reader_failed writer_failed
+pub data StopsFrom (how : Sectioning) (origin : Origin) (most : ℕ) (input output : List ℕ) (fault : ServeFault) (reader_failed writer_failed : Type 0) : Type 0 where
+  Unopened : input ≡ [] → output ≡ [] → fault ≡ Memory → StopsFrom how origin most input output fault reader_failed writer_failed
+  Stopped : (rows : List (ℕ × ℕ)) → HasRows origin rows → Stops how (sizes_of origin most) (map_of rows) input output fault reader_failed writer_failed
+      → StopsFrom how origin most input output fault reader_failed writer_failed

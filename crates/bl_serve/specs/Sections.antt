@@ -1,11 +1,11 @@
 -- Sections that are answered and counted.
-use Rattle.std.specs.Prelude.{◌≡◌, ℕ, suc, ◌+◌, map, flat_map, List, [], Bool, true, false, Option, Some, length, is_none, count_by, codes}
+use Rattle.std.specs.Prelude.{◌≡◌, ℕ, suc, ◌+◌, map, flat_map, List, [], Option, length, is_none, count_by, codes}
 use Rattle.std.specs.List.{AllZip}
 use Rattle.bl_serve_lines.specs.declared.request.Request.{Request}
-use Rattle.bl_serve_lines.specs.declared.request.Request.TheVariants.{Sync}
 use Rattle.bl_serve_lines.specs.declared.serving.Totals.{Totals}
-use Rattle.bl_serve.specs.declared.section_reader.SectionEnd.{SectionEnd}
-use Rattle.bl_serve.specs.declared.section_reader.SectionEnd.TheVariants.{ByLine, Rest, Finished}
+use Rattle.bl_serve_reading.specs.Syncs.{is_sync}
+use Rattle.bl_serve_reading.specs.declared.section_reader.SectionEnd.{SectionEnd}
+use Rattle.bl_serve_reading.specs.declared.section_reader.SectionEnd.TheVariants.{ByLine, Rest, Finished}
 use Rattle.bl_serve_lines.specs.Text.{numbered}
 use Rattle.bl_serve_lines.specs.Lines.{Answer, entries}
 use Rattle.bl_serve_lines.specs.Served.{Interleaves, on_key}
@@ -18,20 +18,15 @@ rests ByLine = 0
 rests Rest = 1
 rests Finished = 0
 
--- the line is a sync
-abbrev pub is_sync : Option Request → Bool
-is_sync (Some Sync) = true
-is_sync asked = false
-
 -- what is printed for bytes behind the last LF, which are the line of that number
 abbrev pub end_text : SectionEnd → ℕ → List ℕ
 end_text ByLine n = []
 end_text Rest n = numbered n (codes "malformed")
 end_text Finished n = []
 
--- The lines were answered after so many others by an index of so many pages, the text prints the answers, and more has their entries and no others: those of
+-- The lines were answered after so many others by an index of so many pages, at least and at most, the text prints the answers, and more has their entries and no others: those of
 -- one line in their order, the operations on one key in the order of the lines, in any order otherwise.
-pub record Held (pages done : ℕ) (asked : List (Option Request)) (text : List ℕ) (more : Trail) : Type 0 where
+pub record Held (pages : ℕ × ℕ) (done : ℕ) (asked : List (Option Request)) (text : List ℕ) (more : Trail) : Type 0 where
   pub answers : List Answer
   pub each : AllZip (IsFor pages) asked answers
   pub prints : text ≡ answers_text (suc done) answers

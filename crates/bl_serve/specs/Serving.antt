@@ -14,11 +14,7 @@ use Rattle.bl_claims.specs.Seeing.{IsLinearizable}
 use Rattle.bl_index.specs.declared.index.Index.{Index}
 use Rattle.bl_index.specs.declared.index.Pass.{Pass}
 use Rattle.bl_index.specs.Calls.{first_of, pages_of, IsPassOf, number_of, trail, passes_of, map_after}
-use Rattle.bl_map.specs.declared.handle.Handle.{Handle}
-use Rattle.bl_map.specs.Handles.{seats_of}
-use Rattle.bl_serve.specs.declared.section_reader.SectionEnd.{SectionEnd}
-use Rattle.bl_serve.specs.Reading.{EndsReading, ReadsLines}
-use Rattle.bl_serve.specs.Sections.{Held, end_text}
+use Rattle.bl_serve_reading.specs.Reading.{EndsReading, ReadsLines}
 
 -- passes of the index that are numbered from that number on, each of which has seen that trail
 abbrev pub AreFrom : Index → Trail → ℕ → List Pass → Type 0
@@ -36,22 +32,6 @@ abbrev pub seen_by : List Pass → Trail
 seen_by [] = []
 seen_by (pass ∷ passes) = trail pass
 
--- These are handles of all seats of the index, which have met.
-abbrev pub AreMet : Index → List Handle → Type 0
-AreMet index handles = AreTogether index (seen_by (seats_of handles)) (seats_of handles)
-
--- A section was answered by the passes, which were together and are so again: since then they have seen its entries, and no others.
-pub record HoldsSection (index : Index) (done : ℕ) (asked : List (Option Request)) (text : List ℕ) (olds news : List Pass) : Type 0 where
-  pub more : Trail
-  pub held : Held (pages_of index) done asked text more
-  pub together : AreTogether index (seen_by olds ++ more) news
-
--- The same, with one line more for bytes behind the last LF.
-pub record ServesSection (index : Index) (done : ℕ) (asked : List (Option Request)) (end : SectionEnd) (text : List ℕ) (olds news : List Pass) : Type 0 where
-  pub answers : List ℕ
-  pub holds : HoldsSection index done asked answers olds news
-  pub ends : text ≡ answers ++ end_text end (done + length asked + 1)
-
 -- a section of so many lines behind so many others may end by it: there was no memory, or the answer of one of its lines was lost
 abbrev pub IsInside : ℕ → ℕ → ServeFault → Type 0
 IsInside done count Read = ⊥
@@ -64,9 +44,9 @@ abbrev pub FailsSection : Sectioning → ServeFault → ℕ → ℕ → List (Op
 FailsSection how fault done most asked rest unread left at_end failed =
     EndsReading how (Err fault) most asked rest unread left at_end failed ⊎ (ReadsLines unread left asked rest × IsInside done (length asked) fault)
 
--- The input is served by an index of so many pages from the map after old on, and the trail now is old with the entries of what was served, in the order of
--- its history, and with no others.
-pub record ServedBy (how : Sectioning) (pages : ℕ) (first : List (Option Page)) (old now : Trail) (input output : List ℕ) (totals : Totals) : Type 0 where
+-- The input is served by an index that has so many pages, at least and at most, from the map after old on, and the trail now is old with the entries
+-- of what was served, in the order of its history, and with no others.
+pub record ServedBy (how : Sectioning) (pages : ℕ × ℕ) (first : List (Option Page)) (old now : Trail) (input output : List ℕ) (totals : Totals) : Type 0 where
   pub served : Served how pages (map_after first old) input output totals
   pub more : Trail
   pub begins : now ≡ old ++ more
@@ -75,7 +55,7 @@ pub record ServedBy (how : Sectioning) (pages : ℕ) (first : List (Option Page)
 -- The passes have served: all have seen one trail, which is what they had seen with the entries of what was served.
 pub record Serves (how : Sectioning) (index : Index) (olds news : List Pass) (totals : Totals) (input output : List ℕ) : Type 0 where
   pub now : Trail
-  pub served : ServedBy how (pages_of index) (first_of index) (seen_by olds) now input output totals
+  pub served : ServedBy how (pages_of index, pages_of index) (first_of index) (seen_by olds) now input output totals
   pub together : AreTogether index now news
 
 -- Serving has ended. The input was read, and more ahead of it; the output was written. Without a fault the input was served, up to

@@ -11,7 +11,7 @@ use Rattle.bl_serve_lines.specs.Served.{Stopped, history_of}
 
 -- What was printed are the replies to the lines of finished sections, and a beginning of those of the next one, as a failed write leaves them. The
 -- log is that of the map after the finished sections, and after the next one too or not, but always if a byte of its replies was printed.
-pub record Survives (how : Sectioning) (pages : ℕ) (start : Map) (input : List ℕ) (before told : Option (List ℕ)) (left : List ℕ) : Type 0 where
+pub record Survives (how : Sectioning) (pages : ℕ × ℕ) (start : Map) (input : List ℕ) (before told : Option (List ℕ)) (left : List ℕ) : Type 0 where
   pub output : List ℕ
   pub printed : Appends before told output
   pub answered : Stopped how pages start input output Write

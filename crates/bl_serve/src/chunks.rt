@@ -1,28 +1,31 @@
 //! A chunk of a section is answered: its lines are dealt into shares, threads work on them, and all are joined.
 
-ghost use Rattle.std.specs.Prelude.{◌≡◌, ℕ, List, suc, ◌+◌, ◌<◌, ◌≤◌, ◌^◌, ◌++◌, true, false, length, flat_map, All, IfOk, IfErr, OnOk, vec_len};
+ghost use Rattle.std.specs.Vec.{vec_capacity};
+ghost use Rattle.std.specs.Prelude.{◌≡◌, ℕ, List, [], suc, ◌+◌, ◌<◌, ◌≤◌, ◌^◌, ◌++◌, true, false, length, flat_map, All, IfOk, IfErr, OnOk, vec_len};
 ghost use Rattle.bl_index.specs.Calls.{first_of, pages_of};
 ghost use Rattle.bl_map.specs.Handles.{seats_of};
 ghost use Rattle.bl_map.specs.Meetings.{IsSeated};
 ghost use Rattle.bl_serve.specs.Meetings.{AllMeet};
 ghost use Rattle.std.specs.Thread.{IsSync};
 ghost use Rattle.std.specs.Io.KnownBytes.{Consumes};
-ghost use Rattle.bl_serve.specs.Reading.{ReadsOn};
+ghost use Rattle.bl_serve_reading.specs.Reading.{ReadsOn};
 ghost use Rattle.bl_serve.specs.Chunks.{IsChunk, Collects, WorkOn};
-ghost use Rattle.bl_serve.specs.Noting.{StillNote};
-ghost use Rattle.bl_serve.specs.Serving.{AreMet, HoldsSection, IsInside};
+ghost use Rattle.bl_serve.specs.Noting.{NoteMore, StillLead};
+ghost use Rattle.bl_serve.specs.Holding.{AreMet, HoldsChunk, HoldsSection};
+ghost use Rattle.bl_serve.specs.Serving.{IsInside};
+ghost use Rattle.bl_serve.specs.Standing.{IsAtRest, index_in, map_in, sizes_in};
 
 use crate::dealing::{deal, shares_for};
+use crate::growing::with_room;
 use crate::joining::join_outputs;
 use crate::meeting::meet_all;
-use crate::parsed_lines::ParsedLines;
-use crate::section_reader::{ReadAhead, read_on};
-use crate::session::{Session, ThreadPlan};
-use bl_changes::Changes;
-use bl_index::Index;
-use bl_map::Handle;
+use crate::session::{Crew, Session, Spare, ThreadPlan};
+use bl_changes::{Changes, histories_lead};
+use bl_index::{Index, Pass};
+use bl_map::{Handle, give_seats, handles_over};
 use bl_model::Watched;
 use bl_serve_lines::ServeFault;
+use bl_serve_reading::{ParsedLines, ReadAhead, read_on};
 use bl_serve_worker::{Chunk, Gate, Role, Service, ShareOutput, Slot, Wakeup, work_on};
 use crossbeam_channel::{Receiver, unbounded};
 use std::alloc::{AllocError, Global};
@@ -226,24 +229,25 @@ fn collect_changes(slots: &[Slot], changes: &mut Changes) -> Result<(), AllocErr
 fn answer_chunk<'a, 'b, R: Threads + Wait + Sync, G: Gate + Sync, I: Read>(
     rt: &R,
     service: &'a Service<'a, G>,
-    session: Session<'b>,
+    index: &Index,
+    session: Crew<'b>,
     lines: &'a ParsedLines,
     reader: &mut Watched<I>,
     ahead: &mut ReadAhead,
-) -> Result<Session<'b>, ServeFault>
-    requires met { AreMet service.now.index.now session.handles.items }
+) -> Result<Crew<'b>, ServeFault>
+    requires met { AreMet index.now session.handles.items }
     requires room { session.totals.requests + length lines.now < 2 ^ 64 }
     ensures totals { IfOk result (λ back. back.totals ≡ session.entry.totals) }
     ensures fault { IfErr result (IsInside session.entry.totals.requests (length lines.now)) }
     ensures reads { OnOk result (ReadsOn ahead.old ahead.new (I.remaining reader.old.inner) (I.remaining reader.new.inner) (reader.new.failed ≡ true)) }
     ensures consumes { (more : List ℕ) × Consumes (I.remaining reader.old.inner) (I.remaining reader.new.inner) more }
     ensures chunk { IfOk result (λ back. (more : List ℕ) × (back.text.items ≡ session.entry.text.items ++ more)
-        × IsChunk (first_of service.now.index.now) (pages_of service.now.index.now) (suc session.entry.totals.requests) lines.now more
+        × IsChunk (first_of index.now) (pages_of index.now) (suc session.entry.totals.requests) lines.now more
         (seats_of session.entry.handles.items) (seats_of back.handles.items)) }
     ensures noted { IfOk result (λ back. service.now.keeps ≡ true
-        → StillNote (seats_of session.entry.handles.items) session.entry.changes (seats_of back.handles.items) back.changes) }
+        → NoteMore (seats_of session.entry.handles.items) session.entry.changes (seats_of back.handles.items) back.changes) }
 {
-    let Session {
+    let Crew {
         plan,
         mut handles,
         mut slots,
@@ -252,6 +256,7 @@ fn answer_chunk<'a, 'b, R: Threads + Wait + Sync, G: Gate + Sync, I: Read>(
         mut changes,
         mut text,
     } = session;
+    let _ = index;
     let (alloc, before) = (service.alloc, totals.requests);
     let threads = threads_for(lines, plan, handles.len());
     let shares = shares_for(lines.len(), threads.min(plan.workers));
@@ -274,7 +279,7 @@ fn answer_chunk<'a, 'b, R: Threads + Wait + Sync, G: Gate + Sync, I: Read>(
     let outputs = collect_outputs(alloc, &mut slots)?;
     let dealt = deals.as_slice();
     join_outputs(alloc, outputs, dealt, shares, before, &mut text)?;
-    Ok(Session {
+    Ok(Crew {
         plan,
         handles,
         slots,
@@ -286,13 +291,13 @@ fn answer_chunk<'a, 'b, R: Threads + Wait + Sync, G: Gate + Sync, I: Read>(
 }
 
 /// The handles of a session meet.
-fn met<'a>(index: &Index, session: Session<'a>) -> Result<Session<'a>, AllocError>
+fn met<'a>(index: &Index, session: Crew<'a>) -> Result<Crew<'a>, AllocError>
     requires { All (IsSeated index.now) session.handles.items }
     ensures { IfOk result (λ back. (back.totals ≡ session.entry.totals) × (back.changes ≡ session.entry.changes)
         × (back.text.items ≡ session.entry.text.items)
         × AllMeet (first_of index.now) (seats_of session.entry.handles.items) (seats_of back.handles.items)) }
 {
-    let Session {
+    let Crew {
         plan,
         mut handles,
         slots,
@@ -302,7 +307,7 @@ fn met<'a>(index: &Index, session: Session<'a>) -> Result<Session<'a>, AllocErro
         text,
     } = session;
     meet_all(index, &mut handles)?;
-    Ok(Session {
+    Ok(Crew {
         plan,
         handles,
         slots,
@@ -313,7 +318,121 @@ fn met<'a>(index: &Index, session: Session<'a>) -> Result<Session<'a>, AllocErro
     })
 }
 
-/// Answers the lines of a chunk by handles that have met, and lets them meet again. The output goes behind the text.
+/// Answers the lines of a chunk by handles of this index that have met, and lets them meet again. The output goes behind the text.
+fn work_chunk<'a, R: Threads + Wait + Sync, G: Gate + Sync, I: Read>(
+    rt: &R,
+    service: &Service<'_, G>,
+    index: &Index,
+    session: Crew<'a>,
+    lines: &ParsedLines,
+    reader: &mut Watched<I>,
+    ahead: &mut ReadAhead,
+) -> Result<Crew<'a>, ServeFault>
+    requires met { AreMet index.now session.handles.items }
+    requires room { session.totals.requests + length lines.now < 2 ^ 64 }
+    ensures totals { IfOk result (λ back. back.totals ≡ session.entry.totals) }
+    ensures paired { IfOk result (λ back. (0 < vec_len back.handles) × (vec_len back.slots ≡ vec_len back.handles)) }
+    ensures reads { OnOk result (ReadsOn ahead.old ahead.new (I.remaining reader.old.inner) (I.remaining reader.new.inner) (reader.new.failed ≡ true)) }
+    ensures consumes { (more : List ℕ) × Consumes (I.remaining reader.old.inner) (I.remaining reader.new.inner) more }
+    ensures held { IfOk result (λ back. (more : List ℕ) × (back.text.items ≡ session.entry.text.items ++ more)
+        × HoldsChunk index.now session.entry.totals.requests lines.now more
+        (seats_of session.entry.handles.items) (seats_of back.handles.items)) }
+    ensures fault { IfErr result (IsInside session.entry.totals.requests (length lines.now)) }
+    ensures noted { IfOk result (λ back. service.now.keeps ≡ true
+        → NoteMore (seats_of session.entry.handles.items) session.entry.changes (seats_of back.handles.items) back.changes) }
+{
+    let session = answer_chunk(rt, service, index, session, lines, reader, ahead)?;
+    Ok(met(index, session)?)
+}
+
+/// How many pages are free, where these are the handles of an index and nobody works. They are counted as pages are taken and given back.
+fn free_by(handles: &[Handle<'_>]) -> u64 {
+    match handles {
+        [first, ..] => first.free_pages(),
+        [] => 0,
+    }
+}
+
+/// The seats of handles, in the vector from which they were taken.
+fn seats_back(handles: Vec<Handle<'_>>, passes: Vec<Pass>) -> Vec<Pass>
+    requires room { vec_len passes + vec_len handles ≤ vec_capacity passes }
+    requires none { passes.items ≡ [] }
+    ensures { result.items ≡ seats_of handles.entry.items }
+{
+    let mut passes = passes;
+    give_seats(handles, &mut passes);
+    passes
+}
+
+/// Answers the lines of a chunk by all passes of the index, which have met, and lets them meet again.
+fn answer_at<'a, R: Threads + Wait + Sync, G: Gate + Sync, I: Read>(
+    rt: &R,
+    service: &Service<'_, G>,
+    session: Session<'a>,
+    lines: &ParsedLines,
+    reader: &mut Watched<I>,
+    ahead: &mut ReadAhead,
+) -> Result<Session<'a>, ServeFault>
+    requires rests { IsAtRest session.ground session.passes.items }
+    requires room { session.totals.requests + length lines.now < 2 ^ 64 }
+    ensures totals { IfOk result (λ back. back.totals ≡ session.entry.totals) }
+    ensures reads { OnOk result (ReadsOn ahead.old ahead.new (I.remaining reader.old.inner) (I.remaining reader.new.inner) (reader.new.failed ≡ true)) }
+    ensures consumes { (more : List ℕ) × Consumes (I.remaining reader.old.inner) (I.remaining reader.new.inner) more }
+    ensures ground { IfOk result (λ back. back.ground ≡ session.entry.ground) }
+    ensures held { IfOk result (λ back. (more : List ℕ) × (back.text.items ≡ session.entry.text.items ++ more)
+        × HoldsChunk (index_in session.entry.ground) session.entry.totals.requests lines.now more session.entry.passes.items back.passes.items) }
+    ensures fault { IfErr result (IsInside session.entry.totals.requests (length lines.now)) }
+    ensures noted { IfOk result (λ back. service.now.keeps ≡ true
+        → NoteMore session.entry.passes.items session.entry.changes back.passes.items back.changes) }
+{
+    let Session {
+        plan,
+        ground,
+        mut passes,
+        spare,
+        slots,
+        totals,
+        remarks,
+        changes,
+        text,
+    } = session;
+    let index = ground.index();
+    let handles = handles_over(index, &mut passes)?;
+    let crew = Crew {
+        plan,
+        handles,
+        slots,
+        totals,
+        remarks,
+        changes,
+        text,
+    };
+    let Crew {
+        plan,
+        handles,
+        slots,
+        totals,
+        remarks,
+        changes,
+        text,
+    } = work_chunk(rt, service, index, crew, lines, reader, ahead)?;
+    let free = free_by(handles.as_slice());
+    let passes = seats_back(handles, passes);
+    Ok(Session {
+        plan,
+        ground,
+        passes,
+        spare: Spare { free, ..spare },
+        slots,
+        totals,
+        remarks,
+        changes,
+        text,
+    })
+}
+
+/// Answers the lines of a chunk, once the index has room for them, and where it may grow is larger for that. The output goes behind the text.
+/// What was noted leads on to the map that is left.
 pub fn run_chunk<'a, R: Threads + Wait + Sync, G: Gate + Sync, I: Read>(
     rt: &R,
     service: &Service<'_, G>,
@@ -322,18 +441,21 @@ pub fn run_chunk<'a, R: Threads + Wait + Sync, G: Gate + Sync, I: Read>(
     reader: &mut Watched<I>,
     ahead: &mut ReadAhead,
 ) -> Result<Session<'a>, ServeFault>
-    requires met { AreMet service.now.index.now session.handles.items }
+    requires rests { IsAtRest session.ground session.passes.items }
     requires room { session.totals.requests + length lines.now < 2 ^ 64 }
     ensures totals { IfOk result (λ back. back.totals ≡ session.entry.totals) }
     ensures reads { OnOk result (ReadsOn ahead.old ahead.new (I.remaining reader.old.inner) (I.remaining reader.new.inner) (reader.new.failed ≡ true)) }
     ensures consumes { (more : List ℕ) × Consumes (I.remaining reader.old.inner) (I.remaining reader.new.inner) more }
     ensures held { IfOk result (λ back. (more : List ℕ) × (back.text.items ≡ session.entry.text.items ++ more)
-        × HoldsSection service.now.index.now session.entry.totals.requests lines.now more
-        (seats_of session.entry.handles.items) (seats_of back.handles.items)) }
+        × HoldsSection (sizes_in session.entry.ground) session.entry.ground session.entry.totals.requests lines.now more
+        session.entry.passes.items back.ground back.passes.items) }
     ensures fault { IfErr result (IsInside session.entry.totals.requests (length lines.now)) }
-    ensures noted { IfOk result (λ back. service.now.keeps ≡ true
-        → StillNote (seats_of session.entry.handles.items) session.entry.changes (seats_of back.handles.items) back.changes) }
+    ensures leads { IfOk result (λ back. service.now.keeps ≡ true
+        → StillLead session.entry.changes (map_in session.entry.ground session.entry.passes.items) back.changes (map_in back.ground back.passes.items)) }
 {
-    let session = answer_chunk(rt, service, session, lines, reader, ahead)?;
-    Ok(met(service.index, session)?)
+    // The law by which what was noted leads from map to map.
+    histories_lead();
+    let session = with_room(service.alloc, session, lines)?;
+    let back = answer_at(rt, service, session, lines, reader, ahead)?;
+    Ok(back)
 }

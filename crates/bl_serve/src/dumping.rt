@@ -5,17 +5,19 @@ ghost use Rattle.bl_claims.specs.Trails.{history_of};
 ghost use Rattle.bl_claims.specs.Seeing.{first_map};
 ghost use Rattle.bl_index.specs.Calls.{first_of, pages_of};
 ghost use Rattle.bl_serve.specs.Dumps.{DumpedFrom, HoldMapAfter};
-ghost use Rattle.bl_serve.specs.Origins.{HasPages, HasRows, MayServe, StopsFrom, size_of};
+ghost use Rattle.bl_serve.specs.Origins.{HasPages, HasRows, MayServe, StopsFrom, sizes_of};
+ghost use Rattle.bl_serve.specs.Standing.{IsOwned, index_in};
 ghost use Rattle.bl_serve.specs.Surviving.{Survives};
 ghost use Rattle.bl_serve.specs.Serving.{AreTogether, EndsServing, seen_by};
 ghost use Rattle.bl_model.specs.Rows.{map_of};
 ghost use Rattle.bl_outside.specs.Crashes.{FindsOnly};
 ghost use Rattle.std.specs.Io.KnownBytes.{Consumes};
 
+use crate::ground::Ground;
 use crate::origin::Origin;
 use crate::serving::serve_with;
 use crate::session::ServePlan;
-use crate::starting::{open_index, plan_of};
+use crate::starting::{ground_of, open_index, plan_of};
 use crate::summary::Summary;
 use bl_check::Quiet;
 use bl_index::{CloseFault, Index, Pass};
@@ -28,11 +30,22 @@ use std::io::{Read, Write};
 use std::sync::Wait;
 use std::thread::Threads;
 
+/// The index of a server that has one of its own.
+fn own_index(ground: Ground<'_>) -> Index
+    requires { IsOwned ground }
+    ensures { result ≡ index_in ground.entry }
+{
+    match ground {
+        Ground::Own(index, _) => index,
+        Ground::Lent(_) => unreachable!(),
+    }
+}
+
 /// Closes an index by all its passes, which have met: its image has the rows of the map after what they have seen.
 fn shut(alloc: Global, index: Index, passes: Vec<Pass>) -> Result<Quiet, AllocError>
     requires some { 0 < vec_len passes }
     requires together { AreTogether index (seen_by passes.items) passes.items }
-    ensures { IfOk result (λ quiet. HoldMapAfter (first_map (first_of index)) (history_of (seen_by passes.items)) (pages_of index) quiet.image.pages.items) }
+    ensures { IfOk result (λ quiet. HoldMapAfter (first_map (first_of index)) (history_of (seen_by passes.items)) (pages_of index, pages_of index) quiet.image.pages.items) }
 {
     match index.close(alloc, passes) {
         Ok(quiet) => Ok(quiet),
@@ -57,7 +70,7 @@ pub fn dump_index<T: Threads + Wait + Sync, R: Read, W: Write>(
 ) -> Result<(Totals, Result<Quiet, AllocError>), ServeFault>
     requires pages { HasPages origin }
     requires passes { (1 ≤ workers) × (workers + compressors ≤ 64) }
-    ensures serves { EndsServing (λ t. DumpedFrom Sectioning.BySync origin t.0 t.1) (StopsFrom Sectioning.BySync origin)
+    ensures serves { EndsServing (λ t. DumpedFrom Sectioning.BySync origin 0 t.0 t.1) (StopsFrom Sectioning.BySync origin 0)
         (R.remaining reader.old.inner) (R.remaining reader.new.inner) (reader.new.failed ≡ true)
         (W.contents writer.old.inner) (W.contents writer.new.inner) (writer.new.failed ≡ true) result }
     ensures flushed { OnOk result (writer.new.pending ≡ false) }
@@ -66,6 +79,7 @@ pub fn dump_index<T: Threads + Wait + Sync, R: Read, W: Write>(
         workers,
         compressors,
         sections: Sectioning::BySync,
+        most: 0,
     };
     match dump_by_plan(rt, alloc, origin, plan, reader, writer) {
         Ok((summary, closed)) => Ok((summary.totals, closed)),
@@ -85,19 +99,20 @@ pub fn dump_by_plan<T: Threads + Wait + Sync, R: Read, O: Outside>(
     requires pages { HasPages origin }
     requires passes { MayServe plan }
     requires log { O.is_modelled outside.old → (rows : List (ℕ × ℕ)) × HasRows origin rows × O.holds outside.old (map_of rows) }
-    ensures serves { EndsServing (λ t. DumpedFrom plan.sections origin t.0.totals t.1) (StopsFrom plan.sections origin)
+    ensures serves { EndsServing (λ t. DumpedFrom plan.sections origin plan.most t.0.totals t.1) (StopsFrom plan.sections origin plan.most)
         (R.remaining reader.old.inner) (R.remaining reader.new.inner) (reader.new.failed ≡ true)
         (O.printed outside.old) (O.printed outside.new) (O.has_failed outside.new) result }
     ensures flushed { OnOk result (O.is_flushed outside.new) }
     // What a crash finds at any moment.
     ensures any_moment { O.is_modelled outside.old → (rows : List (ℕ × ℕ)) → HasRows origin rows
         → (read : List ℕ) × Consumes (R.remaining reader.old.inner) (R.remaining reader.new.inner) read
-        × FindsOnly O.moment O.finds outside.old outside.new (Survives plan.sections (size_of origin) (map_of rows) read (O.printed outside.old)) }
+        × FindsOnly O.moment O.finds outside.old outside.new (Survives plan.sections (sizes_of origin plan.most) (map_of rows) read (O.printed outside.old)) }
 {
     let threads = plan_of(plan);
     let (index, passes) = open_index(alloc, origin, plan.workers + plan.compressors)?;
-    match serve_with(rt, &index, passes, reader, outside, &OpenGate, threads) {
-        Ok((summary, passes)) => Ok((summary, shut(alloc, index, passes))),
+    let ground = ground_of(index, plan.most);
+    match serve_with(rt, ground, passes, reader, outside, &OpenGate, threads) {
+        Ok((summary, ground, passes)) => Ok((summary, shut(alloc, own_index(ground), passes))),
         Err(fault) => Err(fault),
     }
 }

@@ -4,29 +4,29 @@ ghost use Rattle.std.specs.Prelude.{◌≡◌, ℕ, ◌+◌, ◌-◌, ◌<◌, �
 ghost use Rattle.std.specs.Io.KnownBytes.{Appends, Consumes, IsAtEnd};
 ghost use Rattle.bl_serve_lines.specs.Served.{Stops};
 ghost use Rattle.bl_index.specs.Calls.{first_of, pages_of, map_after};
-ghost use Rattle.bl_map.specs.Handles.{seats_of};
 ghost use Rattle.bl_journal.specs.Rows.{Leads};
 ghost use Rattle.bl_outside.specs.Crashes.{FindsOnly};
-ghost use Rattle.bl_serve.specs.Noting.{StillNote};
-ghost use Rattle.bl_serve.specs.Reading.{EndsReading, ReadsOn};
+ghost use Rattle.bl_serve.specs.Holding.{ServesOn, ServesSection};
+ghost use Rattle.bl_serve.specs.Noting.{StillLead};
+ghost use Rattle.bl_serve_reading.specs.Reading.{EndsReading, ReadsOn};
 ghost use Rattle.bl_serve.specs.Sections.{CountsSection, rests};
 ghost use Rattle.bl_serve.specs.Surviving.{Survives};
-ghost use Rattle.bl_serve.specs.Serving.{AreMet, AreTogether, EndsServing, FailsSection, IsInside, Serves, ServesSection, seen_by};
+ghost use Rattle.bl_serve.specs.Serving.{AreTogether, EndsServing, FailsSection, IsInside, Serves, seen_by};
+ghost use Rattle.bl_serve.specs.Standing.{IsAtRest, map_in, sizes_in};
 
 use crate::chunks::{new_slots, run_chunk};
-use crate::parsed_lines::ParsedLines;
-use crate::section_reader::{ReadAhead, SectionEnd, read_on};
-use crate::session::{Session, ThreadPlan};
+use crate::ground::Ground;
+use crate::session::{Session, Spare, ThreadPlan};
 use crate::summary::{Remarks, Summary, summed_up};
-use bl_changes::{Changes, histories_lead};
+use bl_changes::Changes;
 use bl_hints::Hints;
 use bl_index::{Index, Pass};
-use bl_map::{Handle, give_seats, handles_over};
 use bl_model::Watched;
 use bl_outside::{Outside, keep_and_print};
 use bl_serve_lines::print::{Response, push_line};
 use bl_serve_lines::request::Request;
 use bl_serve_lines::{Sectioning, ServeFault, Totals};
+use bl_serve_reading::{ParsedLines, ReadAhead, SectionEnd, read_on};
 use bl_serve_worker::{Gate, Service};
 use std::alloc::{AllocError, Global};
 use std::io::{Read, Write};
@@ -94,17 +94,17 @@ fn serve_chunk<'a, T: Threads + Wait + Sync, R: Read, G: Gate + Sync>(
     reader: &mut Watched<R>,
     ahead: &mut ReadAhead,
 ) -> Result<Session<'a>, ServeFault>
-    requires met { AreMet service.now.index.now session.handles.items }
+    requires rests { IsAtRest session.ground session.passes.items }
     requires requests { session.totals.requests + length lines.now + rests end < 2 ^ 64 }
     ensures counts { IfOk result (λ back. CountsSection session.entry.totals back.totals lines.now end) }
     ensures serves { IfOk result (λ back. (more : List ℕ) × (back.text.items ≡ session.entry.text.items ++ more)
-        × ServesSection service.now.index.now session.entry.totals.requests lines.now end more
-        (seats_of session.entry.handles.items) (seats_of back.handles.items)) }
+        × ServesSection (sizes_in session.entry.ground) session.entry.ground session.entry.totals.requests lines.now end more
+        session.entry.passes.items back.ground back.passes.items) }
     ensures reads { OnOk result (ReadsOn ahead.old ahead.new (R.remaining reader.old.inner) (R.remaining reader.new.inner) (reader.new.failed ≡ true)) }
     ensures consumes { (more : List ℕ) × Consumes (R.remaining reader.old.inner) (R.remaining reader.new.inner) more }
     ensures fault { IfErr result (IsInside session.entry.totals.requests (length lines.now)) }
-    ensures noted { IfOk result (λ back. service.now.keeps ≡ true
-        → StillNote (seats_of session.entry.handles.items) session.entry.changes (seats_of back.handles.items) back.changes) }
+    ensures leads { IfOk result (λ back. service.now.keeps ≡ true
+        → StillLead session.entry.changes (map_in session.entry.ground session.entry.passes.items) back.changes (map_in back.ground back.passes.items)) }
 {
     let mut session = run_chunk(rt, service, session, lines, reader, ahead)?;
     let before = session.totals.requests;
@@ -123,7 +123,8 @@ fn emptied(session: Session<'_>) -> Session<'_>
     ensures text { result.text.items ≡ [] }
     ensures came { result.changes.came.items ≡ [] }
     ensures went { result.changes.went.items ≡ [] }
-    ensures handles { result.handles.items ≡ session.entry.handles.items }
+    ensures ground { result.ground ≡ session.entry.ground }
+    ensures passes { result.passes.items ≡ session.entry.passes.items }
     ensures totals { result.totals ≡ session.entry.totals }
 {
     let mut session = session;
@@ -144,7 +145,7 @@ fn serve_section<'a, T: Threads + Wait + Sync, R: Read, G: Gate + Sync>(
     reader: &mut Watched<R>,
     ahead: &mut ReadAhead,
 ) -> Result<(Session<'a>, SectionEnd), ServeFault>
-    requires met { AreMet service.now.index.now session.handles.items }
+    requires rests { IsAtRest session.ground session.passes.items }
     requires requests { session.totals.requests < 2 ^ 64 }
     ensures serves { (requests : List (Option Request)) × (rest : List ℕ) × (more : List ℕ)
         × Consumes (R.remaining reader.old.inner) (R.remaining reader.new.inner) more
@@ -152,13 +153,12 @@ fn serve_section<'a, T: Threads + Wait + Sync, R: Read, G: Gate + Sync>(
         (λ t. EndsReading service.now.sections (Ok t.1) (2 ^ 64 - 1 - session.entry.totals.requests) requests rest (ahead.old.source ++ more) ahead.new.source
         (IsAtEnd (R.remaining reader.new.inner)) (reader.new.failed ≡ true)
         × CountsSection session.entry.totals t.0.totals requests t.1
-        × ServesSection service.now.index.now session.entry.totals.requests requests t.1 t.0.text.items
-        (seats_of session.entry.handles.items) (seats_of t.0.handles.items))
+        × ServesSection (sizes_in session.entry.ground) session.entry.ground session.entry.totals.requests requests t.1 t.0.text.items
+        session.entry.passes.items t.0.ground t.0.passes.items)
         (λ fault. (left : List ℕ) × FailsSection service.now.sections fault session.entry.totals.requests (2 ^ 64 - 1 - session.entry.totals.requests) requests rest
         (ahead.old.source ++ more) left (IsAtEnd (R.remaining reader.new.inner)) (reader.new.failed ≡ true)) }
     ensures leads { IfOk result (λ t. service.now.keeps ≡ true → Leads t.0.changes.came.items t.0.changes.went.items
-        (map_after (first_of service.now.index.now) (seen_by (seats_of session.entry.handles.items)))
-        (map_after (first_of service.now.index.now) (seen_by (seats_of t.0.handles.items)))) }
+        (map_in session.entry.ground session.entry.passes.items) (map_in t.0.ground t.0.passes.items)) }
 {
     let mut session = emptied(session);
     let mut chunk = FIRST_CHUNK;
@@ -182,8 +182,6 @@ fn serve_section<'a, T: Threads + Wait + Sync, R: Read, G: Gate + Sync>(
         let back = serve_chunk(rt, service, session, lines, end, reader, ahead)?;
         session = back;
         if !open {
-            // The law by which what was noted leads from map to map.
-            histories_lead();
             return Ok((session, end));
         }
     }
@@ -198,19 +196,19 @@ fn serve_sections<'a, T: Threads + Wait + Sync, R: Read, O: Outside, G: Gate + S
     reader: &mut Watched<R>,
     outside: &mut O,
 ) -> Result<Session<'a>, ServeFault>
-    requires met { AreMet service.now.index.now session.handles.items }
+    requires rests { IsAtRest session.ground session.passes.items }
     requires first { (session.totals.requests ≡ 0) × (session.totals.malformed ≡ 0) × (session.totals.sections ≡ 0) }
     requires log { O.is_modelled outside.old → (service.now.keeps ≡ true)
-        × O.holds outside.old (map_after (first_of service.now.index.now) (seen_by (seats_of session.handles.items))) }
-    ensures serves { EndsServing (λ s. Serves service.now.sections service.now.index.now (seats_of session.entry.handles.items) (seats_of s.handles.items) s.totals)
-        (Stops service.now.sections (pages_of service.now.index.now) (map_after (first_of service.now.index.now) (seen_by (seats_of session.entry.handles.items))))
+        × O.holds outside.old (map_in session.ground session.passes.items) }
+    ensures serves { EndsServing (λ s. ServesOn service.now.sections session.entry.ground session.entry.passes.items s.ground s.passes.items s.totals)
+        (Stops service.now.sections (sizes_in session.entry.ground) (map_in session.entry.ground session.entry.passes.items))
         (R.remaining reader.old.inner) (R.remaining reader.new.inner) (reader.new.failed ≡ true)
         (O.printed outside.old) (O.printed outside.new) (O.has_failed outside.new) result }
     ensures flushed { OnOk result (O.is_flushed outside.new) }
     // What a crash finds at any moment.
     ensures any_moment { O.is_modelled outside.old → (read : List ℕ) × Consumes (R.remaining reader.old.inner) (R.remaining reader.new.inner) read
-        × FindsOnly O.moment O.finds outside.old outside.new (Survives service.now.sections (pages_of service.now.index.now)
-        (map_after (first_of service.now.index.now) (seen_by (seats_of session.entry.handles.items))) read (O.printed outside.old)) }
+        × FindsOnly O.moment O.finds outside.old outside.new (Survives service.now.sections (sizes_in session.entry.ground)
+        (map_in session.entry.ground session.entry.passes.items) read (O.printed outside.old)) }
 {
     let mut ahead = ReadAhead::new(service.alloc)?;
     let mut lines = ParsedLines::new(service.alloc);
@@ -230,25 +228,33 @@ fn serve_sections<'a, T: Threads + Wait + Sync, R: Read, O: Outside, G: Gate + S
     Ok(session)
 }
 
-/// A session of these handles, in which nothing is served yet.
+/// A session on this index with all its passes, in which nothing is served yet.
 fn begun(
     alloc: Global,
     plan: ThreadPlan,
-    handles: Vec<Handle<'_>>,
+    ground: Ground<'_>,
+    passes: Vec<Pass>,
 ) -> Result<Session<'_>, AllocError>
-    requires { 0 < vec_len handles }
-    ensures handles { IfOk result (λ session. session.handles.items ≡ handles.entry.items) }
+    requires { 0 < vec_len passes }
+    ensures ground { IfOk result (λ session. session.ground ≡ ground.entry) }
+    ensures passes { IfOk result (λ session. session.passes.items ≡ passes.items) }
     ensures first { IfOk result (λ session. (session.totals.requests ≡ 0) × (session.totals.malformed ≡ 0) × (session.totals.sections ≡ 0)) }
 {
-    let slots = new_slots(alloc, handles.len(), plan.workers)?;
+    let slots = new_slots(alloc, passes.len(), plan.workers)?;
     let totals = Totals {
         requests: 0,
         malformed: 0,
         sections: 0,
     };
+    let spare = Spare {
+        free: u64::from(ground.index().room().free_pages),
+        is_refused: false,
+    };
     Ok(Session {
         plan,
-        handles,
+        ground,
+        passes,
+        spare,
         slots,
         totals,
         remarks: Remarks::new(),
@@ -283,7 +289,7 @@ pub fn serve<T: Threads + Wait + Sync, R: Read, W: Write, G: Gate + Sync>(
     requires together { AreTogether index.now (seen_by passes.items) passes.items }
     requires workers { (1 ≤ workers) × (workers ≤ vec_len passes) }
     ensures serves { EndsServing (λ t. Serves Sectioning.BySync index.now passes.items t.1.items t.0)
-        (Stops Sectioning.BySync (pages_of index.now) (map_after (first_of index.now) (seen_by passes.items)))
+        (Stops Sectioning.BySync (pages_of index.now, pages_of index.now) (map_after (first_of index.now) (seen_by passes.items)))
         (R.remaining reader.old.inner) (R.remaining reader.new.inner) (reader.new.failed ≡ true)
         (W.contents writer.old.inner) (W.contents writer.new.inner) (writer.new.failed ≡ true) result }
     ensures flushed { OnOk result (writer.new.pending ≡ false) }
@@ -294,62 +300,59 @@ pub fn serve<T: Threads + Wait + Sync, R: Read, W: Write, G: Gate + Sync>(
         alone: 2,
         sections: Sectioning::BySync,
     };
-    match serve_with(rt, index, passes, reader, writer, gate, plan) {
-        Ok((summary, passes)) => Ok((summary.totals, passes)),
+    let ground = Ground::Lent(index);
+    match serve_with(rt, ground, passes, reader, writer, gate, plan) {
+        Ok((summary, _ground, passes)) => Ok((summary.totals, passes)),
         Err(fault) => Err(fault),
     }
 }
 
-/// The same by a plan, which may have fewer threads for few requests, and other sections; and it tells what else was counted. Where the
-/// outside keeps a log, this is the log of the map that the passes have seen, and what a section has changed is kept before its replies are
-/// printed: after a crash at any moment the log has all operations of each line whose reply was printed, each once; of the section under
-/// way all or none; and of lines behind it none.
-pub fn serve_with<T: Threads + Wait + Sync, R: Read, O: Outside, G: Gate + Sync>(
+/// The same by a plan, which may have fewer threads for few requests, and other sections, and on an index that may grow; and it tells what else
+/// was counted. Where the outside keeps a log, this is the log of the map that the passes have seen, and what a section has changed is kept
+/// before its replies are printed: after a crash at any moment the log has all operations of each line whose reply was printed, each once; of
+/// the section under way all or none; and of lines behind it none.
+pub fn serve_with<'a, T: Threads + Wait + Sync, R: Read, O: Outside, G: Gate + Sync>(
     rt: &T,
-    index: &Index,
+    ground: Ground<'a>,
     passes: Vec<Pass>,
     reader: &mut Watched<R>,
     outside: &mut O,
     gate: &G,
     plan: ThreadPlan,
-) -> Result<(Summary, Vec<Pass>), ServeFault>
-    requires together { AreTogether index.now (seen_by passes.items) passes.items }
+) -> Result<(Summary, Ground<'a>, Vec<Pass>), ServeFault>
+    requires rests { IsAtRest ground passes.items }
     requires some { 0 < vec_len passes }
-    requires log { O.is_modelled outside.old → O.holds outside.old (map_after (first_of index.now) (seen_by passes.items)) }
-    ensures serves { EndsServing (λ t. Serves plan.sections index.now passes.items t.1.items t.0.totals)
-        (Stops plan.sections (pages_of index.now) (map_after (first_of index.now) (seen_by passes.items)))
+    requires log { O.is_modelled outside.old → O.holds outside.old (map_in ground passes.items) }
+    ensures serves { EndsServing (λ t. ServesOn plan.sections ground.entry passes.items t.1 t.2.items t.0.totals)
+        (Stops plan.sections (sizes_in ground.entry) (map_in ground.entry passes.items))
         (R.remaining reader.old.inner) (R.remaining reader.new.inner) (reader.new.failed ≡ true)
         (O.printed outside.old) (O.printed outside.new) (O.has_failed outside.new) result }
     ensures flushed { OnOk result (O.is_flushed outside.new) }
     // What a crash finds at any moment.
     ensures any_moment { O.is_modelled outside.old → (read : List ℕ) × Consumes (R.remaining reader.old.inner) (R.remaining reader.new.inner) read
         × FindsOnly O.moment O.finds outside.old outside.new
-        (Survives plan.sections (pages_of index.now) (map_after (first_of index.now) (seen_by passes.items)) read (O.printed outside.old)) }
+        (Survives plan.sections (sizes_in ground.entry) (map_in ground.entry passes.items) read (O.printed outside.old)) }
 {
-    let mut passes = passes;
-    let handles = handles_over(index, &mut passes)?;
     let alloc = *passes.allocator();
     let hints = Hints::new(alloc)?;
     let service = Service {
-        index,
         hints: &hints,
         gate,
         sections: plan.sections,
         keeps: outside.keeps(),
         alloc,
     };
-    let fresh = begun(alloc, plan, handles)?;
+    let fresh = begun(alloc, plan, ground, passes)?;
     let session = serve_sections(rt, &service, fresh, reader, outside)?;
     let Session {
-        plan: _,
-        handles,
+        ground,
+        passes,
         slots,
         totals,
         remarks,
-        changes: _,
         text,
+        ..
     } = session;
-    give_seats(handles, &mut passes);
     let summary = summed_up(totals, remarks, slots.as_slice(), text.len());
-    Ok((summary, passes))
+    Ok((summary, ground, passes))
 }

@@ -2,8 +2,10 @@
 
 ghost use Rattle.std.specs.Prelude.{◌≡◌, ◌<◌, ◌≤◌, vec_len};
 
+use crate::ground::Ground;
 use crate::summary::Remarks;
 use bl_changes::Changes;
+use bl_index::Pass;
 use bl_map::Handle;
 use bl_serve_lines::{Sectioning, Totals};
 use bl_serve_worker::Slot;
@@ -17,6 +19,8 @@ pub struct ServePlan {
     pub compressors: u32,
     /// Which lines end a section.
     pub sections: Sectioning,
+    /// The index grows up to so many pages, where it begins with fewer.
+    pub most: u32,
 }
 
 /// How lines are shared among threads.
@@ -30,9 +34,50 @@ pub struct ThreadPlan {
     pub sections: Sectioning,
 }
 
-/// The handles of a server, each with its slot, what was counted, and the changes and the output of the section that is open.
+/// What is known of the room of an index while nobody works.
+#[derive(Clone, Copy, Debug, PartialEq, Eq)]
+pub struct Spare {
+    /// So many pages are free.
+    pub free: u64,
+    /// Memory for a larger index was refused, so it is not asked for again.
+    pub is_refused: bool,
+}
+
+impl Spare {
+    /// Behind an attempt to have so many pages in place of those before, after which there are so many.
+    pub fn behind(self, before: u32, wanted: u32, pages: u32) -> Spare {
+        Spare {
+            free: self
+                .free
+                .saturating_add(u64::from(pages.saturating_sub(before))),
+            is_refused: pages < wanted,
+        }
+    }
+}
+
+/// The index of a server with all its passes, a slot for each of them, what was counted, and the changes and the output of the section that
+/// is open.
 #[derive(Drop)]
 pub struct Session<'a> {
+    pub plan: ThreadPlan,
+    pub ground: Ground<'a>,
+    pub passes: Vec<Pass>,
+    pub spare: Spare,
+    pub slots: Vec<Slot>,
+    pub totals: Totals,
+    pub remarks: Remarks,
+    /// The rows that the section has changed so far, where these are noted.
+    pub changes: Changes,
+    pub text: Vec<u8>,
+    pub ghost some: { 0 < vec_len passes },
+    pub ghost paired: { vec_len slots ≡ vec_len passes },
+    pub ghost counted: { totals.malformed ≤ totals.requests },
+    pub ghost synced: { totals.sections ≤ totals.requests },
+}
+
+/// The same while lines are answered, with a handle for each pass in its place.
+#[derive(Drop)]
+pub struct Crew<'a> {
     pub plan: ThreadPlan,
     pub handles: Vec<Handle<'a>>,
     pub slots: Vec<Slot>,

@@ -2,9 +2,8 @@
 
 ghost use Rattle.std.specs.Prelude.{◌≡◌};
 
-use crate::parsed_lines::ParsedLines;
-use crate::section_reader::SectionEnd;
 use bl_serve_lines::Totals;
+use bl_serve_reading::{ParsedLines, SectionEnd};
 use bl_serve_worker::Slot;
 
 /// What whoever runs a server is told beside its totals. These are tested, and in no clause.

@@ -78,14 +78,21 @@ sync_line : Spells (codes "sync") Sync
 sync_line = refl
 
 -- of four pages, one may be retired, and not one more than there are
-stat_fits : Fits 4 (codes "stat") (Stated 4 2 1)
-stat_fits = (refl, (refl, lit≤ tt))
+stat_fits : Fits (4, 4) (codes "stat") (Stated 4 2 1)
+stat_fits = (refl, (lit≤ tt, lit≤ tt, lit≤ tt))
 
-stat_of_five : Fits 4 (codes "stat") (Stated 5 2 1) → ⊥
-stat_of_five fits = let all = fits.1.0 in omega (arith, all)
+stat_of_five : Fits (4, 4) (codes "stat") (Stated 5 2 1) → ⊥
+stat_of_five fits = let all = fits.1.1 in omega (arith, all)
 
-stat_of_too_many : Fits 4 (codes "stat") (Stated 4 3 2) → ⊥
-stat_of_too_many fits = let few = fits.1.1 in omega (arith, few)
+-- an index that may grow to eight may have five by now, and has no fewer than four
+stat_grown : Fits (4, 8) (codes "stat") (Stated 5 2 1)
+stat_grown = (refl, (lit≤ tt, lit≤ tt, lit≤ tt))
+
+stat_of_three : Fits (4, 8) (codes "stat") (Stated 3 2 1) → ⊥
+stat_of_three fits = let all = fits.1.0 in omega (arith, all)
+
+stat_of_too_many : Fits (4, 4) (codes "stat") (Stated 4 3 2) → ⊥
+stat_of_too_many fits = let few = fits.1.2 in omega (arith, few)
 
 stat_written : answer_text (Stated 4 2 1) ≡ codes "pages 4 used 2 free 1"
 stat_written = simp (four, two, one)
@@ -156,7 +163,7 @@ scan_written : answer_text (Scanned (listing.Scan 1 4 None) both) ≡ codes "row
 scan_written = simp (one, two, three)
 
 -- a scan from 1 on in the same parts lists all their rows
-scan_from_fits : Fits 4 (codes "scanfrom 1") (Scanned (listing.ScanFrom 1 None) both)
+scan_from_fits : Fits (4, 4) (codes "scanfrom 1") (Scanned (listing.ScanFrom 1 None) both)
 scan_from_fits = ((lit< tt, tt, simp one), (1, refl, refl, (3, refl, refl, refl)))
 
 scan_from_written : answer_text (Scanned (listing.ScanFrom 1 None) both) ≡ codes "rows 1=2 2=3 3=1 4=5"
@@ -200,14 +207,14 @@ abbrev low_part : Entry
 low_part = record { pass = 0; op = PartDown 2; reply = Rows (record { items = (2, 3) ∷ (1, 2) ∷ [] }) End }
 
 -- a scan from below 4 down to 2 in two parts, of which the second goes on past its end
-scan_down_fits : Fits 4 (codes "scandown 2 4") (Scanned (listing.ScanDown 2 4 None) (high_part ∷ low_part ∷ []))
+scan_down_fits : Fits (4, 4) (codes "scandown 2 4") (Scanned (listing.ScanDown 2 4 None) (high_part ∷ low_part ∷ []))
 scan_down_fits = ((lit< tt, lit< tt, tt, simp (two, four)), (3, refl, refl, (2, refl, refl, refl)))
 
 scan_down_written : answer_text (Scanned (listing.ScanDown 2 4 None) (high_part ∷ low_part ∷ [])) ≡ codes "rows 3=1 2=3"
 scan_down_written = simp (one, two, three)
 
 -- one from 3 on has the same parts
-scan_down_from_fits : Fits 4 (codes "scandownfrom 3") (Scanned (listing.ScanDownFrom 3 None) (high_part ∷ low_part ∷ []))
+scan_down_from_fits : Fits (4, 4) (codes "scandownfrom 3") (Scanned (listing.ScanDownFrom 3 None) (high_part ∷ low_part ∷ []))
 scan_down_from_fits = ((lit< tt, tt, simp three), (3, refl, refl, (2, refl, refl, refl)))
 
 -- below 0 there is no key, and below 3 none from 3 on
@@ -221,7 +228,7 @@ none_from_three = refl
 abbrev to_seven : Entry
 to_seven = record { pass = 0; op = Change 1 5 7; reply = Changed }
 
-sum_fits : Fits 4 (codes "add 1 2") (Added 1 2 (found ∷ to_seven ∷ []) (Replaced 5))
+sum_fits : Fits (4, 4) (codes "add 1 2") (Added 1 2 (found ∷ to_seven ∷ []) (Replaced 5))
 sum_fits = ((lit< tt, lit< tt, simp (one, two)), (refl, (refl, (refl, refl))))
 
 sum_written : answer_text (Added 1 2 (found ∷ to_seven ∷ []) (Replaced 5)) ≡ codes "replaced 5"

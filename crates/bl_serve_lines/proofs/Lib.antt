@@ -4,7 +4,7 @@ pub mod Examples
 pub mod Known
 mod Cuts
 pub mod Sections
-mod LineOrder
+pub mod LineOrder
 pub mod Keys
 pub mod Dealing
 pub mod Listed

@@ -9,7 +9,7 @@ use Rattle.bl_model.specs.Map.{Map}
 use Rattle.bl_serve_lines.specs.declared.serving.Sectioning.TheVariants.{BySync, AtMost}
 use Rattle.bl_serve_lines.specs.declared.serving.Totals.{Totals}
 use Rattle.bl_serve_lines.specs.Lines.{Answer, Line, Replied, Added, Scanned, Stated, Synced, Malformed, entries}
-use Rattle.bl_serve_lines.specs.Served.{Interleaves, Section, HasNoEnd, IsFinished, Served, lines_of, history_of, syncs_of, whole_history}
+use Rattle.bl_serve_lines.specs.Served.{Interleaves, Section, HasNoEnd, IsFinished, Served, lines_of, history_of, syncs_of, whole_history, entries_in, LinesAloneKeepOrder}
 use Rattle.bl_serve_lines.specs.Served.Interleaves.{Done, Takes}
 
 -- ---- each line is a section
@@ -32,16 +32,13 @@ no_lines : (lines : List Line) → HasNoEnd (AtMost 1) lines → lines ≡ []
 no_lines [] h = refl
 no_lines (line ∷ lines) h = let short = h.1 in absurd (omega (arith, short))
 
-abbrev entries_in : List Line → List Entry
-entries_in lines = flat_map (λ line. entries line.answer) lines
-
-one_section : (pages : ℕ) (section : Section) → IsFinished (AtMost 1) pages section → section.history ≡ entries_in section.lines
+one_section : (pages : ℕ × ℕ) (section : Section) → IsFinished (AtMost 1) pages section → section.history ≡ entries_in section.lines
 one_section pages section f =
     let alone : section.lines ≡ f.end ∷ [] = f.lines ∙ ap (λ (z : List Line). z ++ f.end ∷ []) (no_lines f.front f.no_end) in
     of_one f.whole.history (entries f.end.answer) (ap (map (λ (l : Line). entries l.answer)) alone)
     ∙ (sym (append-nil (entries f.end.answer)) ∙ ap entries_in (sym alone))
 
-all_sections : (pages : ℕ) (sections : List Section) → All (IsFinished (AtMost 1) pages) sections → history_of sections ≡ entries_in (lines_of sections)
+all_sections : (pages : ℕ × ℕ) (sections : List Section) → All (IsFinished (AtMost 1) pages) sections → history_of sections ≡ entries_in (lines_of sections)
 all_sections pages [] each = refl
 all_sections pages (s ∷ ss) each = flat_map-cons (λ (x : Section). x.history) s ss
     ∙ (ap (λ (z : List Entry). z ++ history_of ss) (one_section pages s (All-head (IsFinished (AtMost 1) pages) s ss each))
@@ -49,8 +46,8 @@ all_sections pages (s ∷ ss) each = flat_map-cons (λ (x : Section). x.history)
     ∙ (sym (flat_map-append (λ (l : Line). entries l.answer) s.lines (lines_of ss)) ∙ ap entries_in (sym (flat_map-cons (λ (x : Section). x.lines) s ss)))))
 
 -- the history has the entries of the lines in their order
-pub in_line_order : {pages : ℕ} {start : Map} {input output : List ℕ} {totals : Totals} (s : Served (AtMost 1) pages start input output totals) → whole_history s ≡ entries_in (lines_of s.sections ++ s.last.lines)
-in_line_order {pages} s =
+pub in_line_order : LinesAloneKeepOrder
+in_line_order pages start input output totals s =
     let none = no_lines s.last.lines s.no_end in
     ap (λ (z : List Entry). history_of s.sections ++ z) (of_none s.whole.history (ap (map (λ (l : Line). entries l.answer)) none))
     ∙ (append-nil (history_of s.sections) ∙ (all_sections pages s.sections s.each ∙ ap entries_in (sym (ap (λ (z : List Line). lines_of s.sections ++ z) none ∙ append-nil (lines_of s.sections)))))
@@ -72,13 +69,13 @@ no_syncs (line ∷ lines) h = let f : Line → ℕ = λ x. syncs_of x.answer in
     let one = not_one line.answer (All-head (λ (l : Line). ¬ (l.answer ≡ Synced)) line lines h.0) in
     let front = sum_by-append f (line ∷ []) lines in let alone : sum_by f (line ∷ []) ≡ 0 + syncs_of line.answer = refl in omega (arith, more, one, front, alone)
 
-one_sync : (pages : ℕ) (section : Section) → IsFinished BySync pages section → sum_by (λ line. syncs_of line.answer) section.lines ≡ 1
+one_sync : (pages : ℕ × ℕ) (section : Section) → IsFinished BySync pages section → sum_by (λ line. syncs_of line.answer) section.lines ≡ 1
 one_sync pages section f = let g : Line → ℕ = λ x. syncs_of x.answer in
     let none = no_syncs f.front f.no_end in let front = sum_by-append g f.front (f.end ∷ []) in
     let alone : sum_by g (f.end ∷ []) ≡ 0 + syncs_of f.end.answer = refl in let one : syncs_of f.end.answer ≡ 1 = ap syncs_of f.last in
     ap (sum_by g) f.lines ∙ (let sum : sum_by g (f.front ++ f.end ∷ []) ≡ 1 = omega (arith, none, front, alone, one) in sum)
 
-all_syncs : (pages : ℕ) (sections : List Section) → All (IsFinished BySync pages) sections → sum_by (λ line. syncs_of line.answer) (lines_of sections) ≡ length sections
+all_syncs : (pages : ℕ × ℕ) (sections : List Section) → All (IsFinished BySync pages) sections → sum_by (λ line. syncs_of line.answer) (lines_of sections) ≡ length sections
 all_syncs pages [] each = refl
 all_syncs pages (s ∷ ss) each = let g : Line → ℕ = λ x. syncs_of x.answer in
     let one = one_sync pages s (All-head (IsFinished BySync pages) s ss each) in let more = all_syncs pages ss (All-tail (IsFinished BySync pages) s ss each) in
@@ -86,7 +83,7 @@ all_syncs pages (s ∷ ss) each = let g : Line → ℕ = λ x. syncs_of x.answer
     ap (sum_by g) (flat_map-cons (λ (x : Section). x.lines) s ss) ∙ (let sum : sum_by g (s.lines ++ lines_of ss) ≡ suc (length ss) = omega (arith, one, more, front) in sum)
 
 -- there are as many syncs as finished sections
-pub as_many_sections : {pages : ℕ} {start : Map} {input output : List ℕ} {totals : Totals} (s : Served BySync pages start input output totals) → totals.sections ≡ length s.sections
+pub as_many_sections : {pages : ℕ × ℕ} {start : Map} {input output : List ℕ} {totals : Totals} (s : Served BySync pages start input output totals) → totals.sections ≡ length s.sections
 as_many_sections {pages} s = let g : Line → ℕ = λ x. syncs_of x.answer in
     let front = sum_by-append g (lines_of s.sections) s.last.lines in let all = all_syncs pages s.sections s.each in let none = no_syncs s.last.lines s.no_end in
     let is = s.syncs in omega (arith, front, all, none, is)

@@ -53,12 +53,12 @@ Adds key number seen [] reply = ⊥
 Adds key number seen (e ∷ es) reply = (e.op ≡ addition key number seen)
     × MatchOption (value_in e.reply) ((es ≡ []) × (reply ≡ sum_reply seen e.reply)) (λ value. Adds key number (Some value) es reply)
 
--- These are all pages, pages in use and pages that may be taken of an index of so many pages.
-abbrev pub IsRoom : ℕ → ℕ → ℕ → ℕ → Type 0
-IsRoom pages all used free = (all ≡ pages) × (used + free ≤ all)
+-- These are all pages, pages in use and pages that may be taken of an index that has so many pages at least, and so many at most.
+abbrev pub IsRoom : ℕ × ℕ → ℕ → ℕ → ℕ → Type 0
+IsRoom pages all used free = (pages.0 ≤ all) × (all ≤ pages.1) × (used + free ≤ all)
 
 -- The answer is of the line's kind, where the index has so many pages.
-abbrev pub Fits : ℕ → List ℕ → Answer → Type 0
+abbrev pub Fits : ℕ × ℕ → List ℕ → Answer → Type 0
 Fits pages bytes (Replied entry) = Spells bytes (Ask entry.op)
 Fits pages bytes (Added key number es reply) = Spells bytes (Add key number) × Adds key number None es reply
 Fits pages bytes (Scanned asked parts) = Spells bytes (Scan asked) × AreParts (scan_of asked) parts
@@ -66,7 +66,7 @@ Fits pages bytes (Stated all used free) = Spells bytes Stat × IsRoom pages all 
 Fits pages bytes Synced = Spells bytes Sync
 Fits pages bytes Malformed = IsMalformed bytes
 
-pub record IsLine (pages : ℕ) (line : Line) : Type 0 where
+pub record IsLine (pages : ℕ × ℕ) (line : Line) : Type 0 where
   pub cut : HasNoLf line.bytes
   pub fits : Fits pages line.bytes line.answer
 

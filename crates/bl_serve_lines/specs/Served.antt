@@ -38,7 +38,7 @@ pub record Section : Type 0 where
   pub history : List Entry
 
 -- The history has the entries of the lines, those of a line in their order; and the operations on one key are in it in the order of the lines.
-pub record IsSection (pages : ℕ) (section : Section) : Type 0 where
+pub record IsSection (pages : ℕ × ℕ) (section : Section) : Type 0 where
   pub lines : All (IsLine pages) section.lines
   pub history : Interleaves (map (λ line. entries line.answer) section.lines) section.history
   pub order : (key : ℕ) → on_key key section.history ≡ on_key key (flat_map (λ line. entries line.answer) section.lines)
@@ -67,7 +67,7 @@ abbrev pub HasNoEndInside : Sectioning → List Line → Type 0
 HasNoEndInside how lines = (front : List Line) (end : Line) → lines ≡ front ++ end ∷ [] → HasNoEnd how front
 
 -- a section that has ended: its last line, and no other, ends one
-pub record IsFinished (how : Sectioning) (pages : ℕ) (section : Section) : Type 0 where
+pub record IsFinished (how : Sectioning) (pages : ℕ × ℕ) (section : Section) : Type 0 where
   pub front : List Line
   pub end : Line
   pub lines : section.lines ≡ front ++ end ∷ []
@@ -96,10 +96,10 @@ abbrev pub one_if_any : List ℕ → ℕ
 one_if_any [] = 0
 one_if_any (b ∷ bytes) = 1
 
--- From the map at the start, by an index of so many pages: the input is finished sections, an open one and bytes after the
--- last LF; the history is legal, with all entries of a section before those of the next; the output is one line for each
+-- From the map at the start, by an index that has so many pages at least and so many at most: the input is finished sections, an open one and
+-- bytes after the last LF; the history is legal, with all entries of a section before those of the next; the output is one line for each
 -- line of the input, by number; the totals count lines, those that are malformed, and syncs.
-pub record Served (how : Sectioning) (pages : ℕ) (start : Map) (input output : List ℕ) (totals : Totals) : Type 0 where
+pub record Served (how : Sectioning) (pages : ℕ × ℕ) (start : Map) (input output : List ℕ) (totals : Totals) : Type 0 where
   pub sections : List Section
   pub last : Section
   pub rest : List ℕ
@@ -128,7 +128,7 @@ Leaves how (Lost number) done begun ahead lines = (begun ≡ []) × (done < numb
 
 -- The server stopped by the fault: the output is one line for each line of the finished sections, by number, and no
 -- others but, after a failed write, a beginning of the output of the lines behind them. ahead was read and not cut.
-pub record Stopped (how : Sectioning) (pages : ℕ) (start : Map) (input output : List ℕ) (fault : ServeFault) : Type 0 where
+pub record Stopped (how : Sectioning) (pages : ℕ × ℕ) (start : Map) (input output : List ℕ) (fault : ServeFault) : Type 0 where
   pub sections : List Section
   pub last : Section
   pub rest : List ℕ
@@ -146,8 +146,17 @@ pub record Stopped (how : Sectioning) (pages : ℕ) (start : Map) (input output 
   pub leaves : Leaves how fault (length (lines_of sections)) begun ahead last.lines
 
 -- the entries of a served input, in the order of its history
-abbrev pub whole_history : {how : Sectioning} {pages : ℕ} {start : Map} {input output : List ℕ} {totals : Totals} → Served how pages start input output totals → List Entry
+abbrev pub whole_history : {how : Sectioning} {pages : ℕ × ℕ} {start : Map} {input output : List ℕ} {totals : Totals} → Served how pages start input output totals → List Entry
 whole_history served = history_of served.sections ++ served.last.history
+
+-- the entries of lines, one line after another
+abbrev pub entries_in : List Line → List Entry
+entries_in lines = flat_map (λ line. entries line.answer) lines
+
+-- Where each line is a section, the history has the entries of the lines in their order.
+abbrev pub LinesAloneKeepOrder : Type 0
+LinesAloneKeepOrder = (pages : ℕ × ℕ) (start : Map) (input output : List ℕ) (totals : Totals) (s : Served (AtMost 1) pages start input output totals)
+    → whole_history s ≡ entries_in (lines_of s.sections ++ s.last.lines)
 
 -- a read fault comes only from a reader that has failed, and a write fault from such a writer
 abbrev pub ComesFrom : ServeFault → Type 0 → Type 0 → Type 0
@@ -157,6 +166,6 @@ ComesFrom Memory reader_failed writer_failed = Unit {0}
 ComesFrom (Lost number) reader_failed writer_failed = Unit {0}
 
 -- The server stopped by the fault, as far as its input and its output go, and with its reason.
-abbrev pub Stops : Sectioning → ℕ → Map → List ℕ → List ℕ → ServeFault → Type 0 → Type 0 → Type 0
+abbrev pub Stops : Sectioning → ℕ × ℕ → Map → List ℕ → List ℕ → ServeFault → Type 0 → Type 0 → Type 0
 Stops how pages start input output fault reader_failed writer_failed =
     Stopped how pages start input output fault × ComesFrom fault reader_failed writer_failed

@@ -15,4 +15,4 @@ pub mod serving;
 pub mod source;
 
 pub use options::ServeOptions;
-pub use serving::{Sectioning, ServeFault, Totals};
+pub use serving::{Sectioning, ServeFault, Totals, lines_alone_keep_order};

@@ -1,7 +1,7 @@
 //! Which lines a server answers together, what it counts, and why it stops.
 
 ghost use Rattle.std.specs.Prelude.{◌≡◌};
-ghost use Rattle.bl_serve_lines.specs.Served.{after_lines};
+ghost use Rattle.bl_serve_lines.specs.Served.{after_lines, LinesAloneKeepOrder};
 ghost use Rattle.bl_serve_lines.specs.declared.serving.ServeFault.TheVariants.{Memory};
 
 use std::alloc::AllocError;
@@ -60,3 +60,8 @@ impl From<AllocError> for ServeFault {
         ServeFault::Memory
     }
 }
+
+/// Says that where each line is a section, the history has the entries of the lines in their order. It does nothing when it runs.
+pub fn lines_alone_keep_order()
+    ensures { LinesAloneKeepOrder }
+{}

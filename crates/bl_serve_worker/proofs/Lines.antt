@@ -13,7 +13,8 @@ use Rattle.bl_serve_lines.specs.declared.listing.Listing.TheVariants as listing
 use Rattle.bl_serve_lines.specs.declared.listing.Until.TheVariants.{Below}
 use Rattle.bl_serve_lines.specs.Scans.{rows_before, scan_of, shown}
 use Rattle.bl_serve_lines.proofs.Listed.{told_rows, few_below}
-use Rattle.bl_serve_lines.specs.Lines.{Answer, Replied, Added, Scanned, Stated, Synced, Malformed, IsRoom, entries, rows_in, answer_text}
+use Rattle.bl_serve_lines.proofs.Known.{zip_append}
+use Rattle.bl_serve_lines.specs.Lines.{Answer, Replied, Added, Scanned, Stated, Synced, Malformed, entries, rows_in, answer_text}
 use Rattle.bl_serve_lines.specs.Text.{numbered, reply_text, row_text, room_text}
 use Rattle.bl_page.specs.declared.page.Page.{Page}
 use Rattle.bl_claims.specs.Trails.{Trail, entries_at, history_of}
@@ -27,12 +28,6 @@ use Rattle.bl_map.proofs.Same.{kept_as}
 use Rattle.bl_serve_worker.specs.Answering.IsFor.{Replies, Sums, Scans, States, Syncs, Refuses}
 use Rattle.bl_serve_worker.specs.Answering.{IsFor, answers_text, joined_text, replies, AnswersLine, AnswersLines, HasAdded, HasAnswered, HasWrittenRows}
 use Rattle.bl_serve_worker.proofs.Counting.{counted_parts, kept_of_all}
-
-pub zip_append : {A B : Type 0} (R : A → B → Type 0) (xs us : List A) (ys vs : List B) → AllZip R xs ys → AllZip R us vs → AllZip R (xs ++ us) (ys ++ vs)
-zip_append R [] us [] vs h k = k
-zip_append R [] us (y ∷ ys) vs h k = absurd h
-zip_append R (x ∷ xs) us [] vs h k = absurd h
-zip_append R (x ∷ xs) us (y ∷ ys) vs h k = (h.0, zip_append R xs us ys vs h.1 k)
 
 pub zip_length : {A B : Type 0} (R : A → B → Type 0) (xs : List A) (ys : List B) → AllZip R xs ys → length ys ≡ length xs
 zip_length R [] [] h = refl
@@ -76,12 +71,12 @@ no_lines first pages pass text lengths old is none = record { answers = []; each
 
 pub one_more : (first : List (Option Page)) (pages pass n : ℕ) (numbers : List ℕ) (lines : List (Option Request)) (asked : Option Request) (text more lengths longer : List ℕ) (old mid new : Trail) → length numbers ≡ length lines → longer ≡ lengths ++ (length more - length text) ∷ []
     → AnswersLines first pages pass numbers lines text lengths old mid → AnswersLine first pages pass n asked text more mid new → AnswersLines first pages pass (numbers ++ n ∷ []) (lines ++ asked ∷ []) more longer old new
-one_more first pages pass n numbers lines asked text more lengths longer old mid new as_many grown a b = let long = zip_length (IsFor pages) lines a.answers a.each in
+one_more first pages pass n numbers lines asked text more lengths longer old mid new as_many grown a b = let long = zip_length (IsFor (pages, pages)) lines a.answers a.each in
     let reply : List ℕ = numbered n (answer_text b.answer) in
     let all : replies (numbers ++ n ∷ []) (a.answers ++ b.answer ∷ []) ≡ replies numbers a.answers ++ reply ∷ [] = replies_more numbers a.answers n b.answer (omega (arith, long, as_many)) in
     let bytes : length more - length text ≡ length reply = let whole = ap length b.prints in let sum = length-append text reply in omega (arith, whole, sum) in record {
       answers = a.answers ++ b.answer ∷ [];
-      each = zip_append (IsFor pages) lines (asked ∷ []) a.answers (b.answer ∷ []) a.each (b.is_for, tt);
+      each = zip_append (IsFor (pages, pages)) lines (asked ∷ []) a.answers (b.answer ∷ []) a.each (b.is_for, tt);
       prints = b.prints ∙ (ap (λ (z : List ℕ). z ++ reply) a.prints ∙ (flat_map_more (λ (z : List ℕ). z) [] (replies numbers a.answers) reply ∙ ap joined_text (sym all)));
       cuts = grown ∙ (ap (λ (z : List ℕ). z ++ (length more - length text) ∷ []) a.cuts ∙ (ap (λ (z : ℕ). map length (replies numbers a.answers) ++ z ∷ []) bytes
           ∙ (sym (map-append length (replies numbers a.answers) (reply ∷ [])) ∙ ap (map length) (sym all))));
@@ -143,14 +138,14 @@ summed_line a b n key number reply before after (es, adds, made) is =
     record { answer = Added key number es reply; is_for = Sums key number es reply adds; prints = is; begins = made.begins; seen = made.seen; mine = made.mine }
 
 -- a line that has no entry
-word_line : (first : List (Option Page)) (pages pass n : ℕ) (asked : Option Request) (answer : Answer) (before after : List ℕ) (old : Trail) → IsFor pages asked answer → entries answer ≡ [] → after ≡ before ++ numbered n (answer_text answer) → AnswersLine first pages pass n asked before after old old
+word_line : (first : List (Option Page)) (pages pass n : ℕ) (asked : Option Request) (answer : Answer) (before after : List ℕ) (old : Trail) → IsFor (pages, pages) asked answer → entries answer ≡ [] → after ≡ before ++ numbered n (answer_text answer) → AnswersLine first pages pass n asked before after old old
 word_line first pages pass n asked answer before after old for none is = record { answer = answer; is_for = for; prints = is; begins = stays old; seen = λ s. s; mine = sym (append-nil (own pass old)) ∙ ap (λ (z : List Entry). own pass old ++ z) (sym none) }
 
 pub synced_line : (first : List (Option Page)) (pages pass n : ℕ) (asked : Option Request) (before after : List ℕ) (old : Trail) → asked ≡ Some Sync → after ≡ before ++ numbered n (codes "synced") → AnswersLine first pages pass n asked before after old old
 synced_line first pages pass n asked before after old is written = subst (λ (z : Option Request). AnswersLine first pages pass n z before after old old) (sym is) (word_line first pages pass n (Some Sync) Synced before after old Syncs refl written)
 
-pub stated_line : (first : List (Option Page)) (pages pass n all used free : ℕ) (asked : Option Request) (before after : List ℕ) (old : Trail) → asked ≡ Some Stat → IsRoom pages all used free → after ≡ before ++ numbered n (room_text all used free) → AnswersLine first pages pass n asked before after old old
-stated_line first pages pass n all used free asked before after old is room written = subst (λ (z : Option Request). AnswersLine first pages pass n z before after old old) (sym is) (word_line first pages pass n (Some Stat) (Stated all used free) before after old (States all used free room) refl written)
+pub stated_line : (first : List (Option Page)) (pages pass n all used free : ℕ) (asked : Option Request) (before after : List ℕ) (old : Trail) → asked ≡ Some Stat → (all ≡ pages) × (used + free ≤ all) → after ≡ before ++ numbered n (room_text all used free) → AnswersLine first pages pass n asked before after old old
+stated_line first pages pass n all used free asked before after old is room written = subst (λ (z : Option Request). AnswersLine first pages pass n z before after old old) (sym is) (word_line first pages pass n (Some Stat) (Stated all used free) before after old (States all used free (let same = room.0 in (omega (arith, same), omega (arith, same), room.1))) refl written)
 
 pub malformed_line : (first : List (Option Page)) (pages pass n : ℕ) (asked : Option Request) (before after : List ℕ) (old : Trail) → asked ≡ None → after ≡ before ++ numbered n (codes "malformed") → AnswersLine first pages pass n asked before after old old
 malformed_line first pages pass n asked before after old is written = subst (λ (z : Option Request). AnswersLine first pages pass n z before after old old) (sym is) (word_line first pages pass n None Malformed before after old Refuses refl written)

@@ -120,7 +120,7 @@ IsQuiet (Some Stat) = Unit {0}
 IsQuiet (Some Sync) = Unit {0}
 IsQuiet None = Unit {0}
 
-answer_none : {pages : ℕ} {asked : Option Request} {answer : Answer} → IsFor pages asked answer → IsQuiet asked → (all_came (entries answer) ≡ []) × (all_went (entries answer) ≡ [])
+answer_none : {pages : ℕ × ℕ} {asked : Option Request} {answer : Answer} → IsFor pages asked answer → IsQuiet asked → (all_came (entries answer) ≡ []) × (all_went (entries answer) ≡ [])
 answer_none (Replies entry) quiet = one_none entry quiet
 answer_none (Sums key number es reply adds) quiet = absurd quiet
 answer_none (Scans asked parts are) quiet = parts_none (scan_of asked) parts are

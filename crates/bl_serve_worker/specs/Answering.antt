@@ -16,8 +16,8 @@ use Rattle.bl_claims.specs.Seeing.{IsLinearizable, own, GoesOnFrom}
 use Rattle.bl_map.specs.declared.handle.Handle.{Handle}
 use Rattle.bl_map.specs.Handles.{first_map_of, pages_of_map, number_of_seat, seen_by}
 
--- the answer is one to what was asked, of an index of so many pages
-pub data IsFor (pages : ℕ) : Option Request → Answer → Type 0 where
+-- the answer is one to what was asked, of an index that has so many pages at least, and so many at most
+pub data IsFor (pages : ℕ × ℕ) : Option Request → Answer → Type 0 where
   Replies : (entry : Entry) → IsFor pages (Some (Ask entry.op)) (Replied entry)
   Sums : (key number : ℕ) (es : List Entry) (reply : Reply) → Adds key number None es reply → IsFor pages (Some (Add key number)) (Added key number es reply)
   Scans : (asked : Listing) (parts : List Entry) → AreParts (scan_of asked) parts → IsFor pages (Some (Scan asked)) (Scanned asked parts)
@@ -49,7 +49,7 @@ pub record HasMade (first : List (Option Page)) (pass : ℕ) (es : List Entry) (
 -- The line of that number was answered, and its answer was written: the new entries of the pass are those of the answer.
 pub record AnswersLine (first : List (Option Page)) (pages pass number : ℕ) (asked : Option Request) (before after : List ℕ) (old new : Trail) : Type 0 where
   pub answer : Answer
-  pub is_for : IsFor pages asked answer
+  pub is_for : IsFor (pages, pages) asked answer
   pub prints : after ≡ before ++ numbered number (answer_text answer)
   pub begins : GoesOnFrom old new
   pub seen : IsLinearizable first old → IsLinearizable first new
@@ -58,7 +58,7 @@ pub record AnswersLine (first : List (Option Page)) (pages pass number : ℕ) (a
 -- The lines of these numbers were answered one after another: the text prints the answers, each in so many bytes.
 pub record AnswersLines (first : List (Option Page)) (pages pass : ℕ) (numbers : List ℕ) (lines : List (Option Request)) (text lengths : List ℕ) (old new : Trail) : Type 0 where
   pub answers : List Answer
-  pub each : AllZip (IsFor pages) lines answers
+  pub each : AllZip (IsFor (pages, pages)) lines answers
   pub prints : text ≡ joined_text (replies numbers answers)
   pub cuts : lengths ≡ map length (replies numbers answers)
   pub begins : GoesOnFrom old new

@@ -28,7 +28,7 @@ pub record Piece : Type 0 where
 -- The answers are those of the share's lines in their order, of an index of so many pages, and its output prints them with the numbers of these
 -- lines, the first line of all being that of that number.
 pub record IsPiece (pages number : ℕ) (deals : List ℕ) (lines : List (Option Request)) (piece : Piece) : Type 0 where
-  pub each : AllZip (IsFor pages) (dealt piece.output.share deals lines) piece.answers
+  pub each : AllZip (IsFor (pages, pages)) (dealt piece.output.share deals lines) piece.answers
   pub prints : piece.output.text.items ≡ joined_text (replies (dealt piece.output.share deals (numbers number (length lines))) piece.answers)
   pub cuts : piece.output.lengths.items ≡ map length (replies (dealt piece.output.share deals (numbers number (length lines))) piece.answers)
 

@@ -1,15 +1,12 @@
 //! What the threads of a server share.
 
 use bl_hints::Hints;
-use bl_index::Index;
 use bl_serve_lines::Sectioning;
 use std::alloc::Global;
 
 /// What all threads of a server share for its whole life.
 #[derive(Drop)]
 pub struct Service<'a, G> {
-    /// The index that all handles work on.
-    pub index: &'a Index,
     /// Hints that wait for a compressor.
     pub hints: &'a Hints,
     /// Each request goes through it.

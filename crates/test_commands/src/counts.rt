@@ -8,41 +8,41 @@ use std::io::Write;
 use std::test::Fail;
 
 /// Whether the lines of a server's end are those.
-fn says(alloc: Global, norooms: u64, pages: u32, image: bool, wanted: &str) -> Result<bool, Fail> {
-    let line = noroom_line(alloc, norooms, pages, image)?;
+fn says(alloc: Global, norooms: u64, pages: u32, most: u32, wanted: &str) -> Result<bool, Fail> {
+    let line = noroom_line(alloc, norooms, pages, most)?;
     Ok(line.as_str() == wanted)
 }
 
 #[test]
 fn lines_on_no_room(rt: HostRuntime) -> Result<(), Fail> {
-    for (norooms, pages, image, wanted) in [
+    for (norooms, pages, most, wanted) in [
         (
             1,
             4,
-            false,
+            4,
             "blink: 1 request found no room; more --pages than 4 may help",
         ),
         (
             22_767,
             1024,
-            false,
+            1024,
             "blink: 22767 requests found no room; more --pages than 1024 may help",
         ),
         (
             2,
             65_536,
-            false,
+            65_536,
             "blink: 2 requests found no room; more pages than 65536 by --large may help",
         ),
         (
             2,
             1024,
-            true,
-            "blink: 2 requests found no room; an index has as many pages as its image",
+            5000,
+            "blink: 2 requests found no room; the index grows to 5000 pages, where memory for them is found",
         ),
     ] {
         assert!(rt;
-            says(rt.alloc(), norooms, pages, image, wanted)?,
+            says(rt.alloc(), norooms, pages, most, wanted)?,
             "{wanted}"
         );
     }

@@ -22,7 +22,7 @@ fn invoked(alloc: Global, text: &str) -> Result<Option<Invocation>, Fail> {
 }
 
 /// What a server asks for: its pages, workers and compressors, and the image that it begins with.
-type Served<'a> = (u32, u32, u32, Option<&'a str>);
+type Served<'a> = ((u32, u32), u32, u32, Option<&'a str>);
 
 /// Whether a server is asked for, and whether it is to say what it has counted.
 fn counts(invocation: &Invocation) -> Option<bool> {
@@ -100,9 +100,10 @@ fn words_that_ask_for_a_reply_at_once(rt: HostRuntime) -> Result<(), Fail> {
 
 /// Whether a server is of that kind.
 fn is_server(server: &Server, served: Served<'_>) -> bool {
-    let (pages, workers, compressors, image) = served;
+    let ((pages, most), workers, compressors, image) = served;
     let options = ServeOptions {
         pages,
+        most,
         workers,
         compressors,
     };
@@ -135,31 +136,46 @@ fn asks(alloc: Global, text: &str, served: Served<'_>, dump: Option<&str>) -> Re
 /// A command line, the server that it asks for, and the file of a dump.
 type Line = (&'static str, Served<'static>, Option<&'static str>);
 
-const LINES: [Line; 6] = [
-    ("blink serve", (1024, 4, 1, None), None),
+const LINES: [Line; 9] = [
+    ("blink serve", ((1024, 268435456), 4, 1, None), None),
     (
         "blink serve --pages 4 --workers 1 --compressors 0",
-        (4, 1, 0, None),
+        ((4, 4), 1, 0, None),
         None,
     ),
     (
         "blink serve --pages 65536 --workers 32 --compressors 16",
-        (65536, 32, 16, None),
+        ((65536, 65536), 32, 16, None),
         None,
     ),
     (
+        "blink serve --most 5000",
+        ((1024, 5000), 4, 1, None),
+        None,
+    ),
+    (
+        "blink serve --pages 16 --most 64",
+        ((16, 64), 4, 1, None),
+        None,
+    ),
+    (
+        "blink dump index.image --large 4 --most 268435456",
+        ((4, 268435456), 4, 1, None),
+        Some("index.image"),
+    ),
+    (
         "blink dump --pages 4 index.image --workers 1 --compressors 0",
-        (4, 1, 0, None),
+        ((4, 4), 1, 0, None),
         Some("index.image"),
     ),
     (
         "blink serve --image old.image",
-        (1024, 4, 1, Some("old.image")),
+        ((1024, 268435456), 4, 1, Some("old.image")),
         None,
     ),
     (
         "blink dump new.image --image old.image",
-        (1024, 4, 1, Some("old.image")),
+        ((1024, 268435456), 4, 1, Some("old.image")),
         Some("new.image"),
     ),
 ];

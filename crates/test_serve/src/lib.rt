@@ -10,6 +10,8 @@ mod dumps;
 #[cfg(test)]
 mod gates;
 #[cfg(test)]
+mod growing;
+#[cfg(test)]
 mod lines;
 #[cfg(test)]
 mod logs;

@@ -1,6 +1,6 @@
 //! Each line is a section.
 
-ghost use Rattle.std.specs.Prelude.{◌≤◌};
+ghost use Rattle.std.specs.Prelude.{◌≤◌, ◌^◌};
 
 use bl_check::{Report, check};
 use bl_model::Watched;
@@ -20,7 +20,7 @@ fn end<R: Threads + Wait + Sync, I: Read + Drop, O: Write + Drop>(
     reader: I,
     writer: O,
 ) -> (Result<Totals, ServeFault>, O)
-    requires { (1 ≤ plan.workers) × (plan.workers ≤ 32) × (plan.compressors ≤ 16) }
+    requires { (1 ≤ plan.workers) × (plan.workers ≤ 32) × (plan.compressors ≤ 16) × (plan.most ≤ 2 ^ 28) }
 {
     let mut reader = Watched::new(reader);
     let mut writer = Watched::new(writer);
@@ -44,6 +44,7 @@ fn answer<R: Threads + Wait + Sync>(
         workers,
         compressors,
         sections: Sectioning::AtMost(1),
+        most: 0,
     };
     match end(rt, alloc, plan, input, Vec::new(alloc)) {
         (Ok(totals), text) => Some((text.as_slice() == output, totals)),
@@ -148,6 +149,7 @@ fn asks_early<R: Threads + Wait + Sync>(
         workers,
         compressors: 1,
         sections,
+        most: 0,
     };
     let (_ended, _writer) = end(rt, alloc, plan, reader, writer);
     (
@@ -199,6 +201,7 @@ fn rows_left<R: Threads + Wait + Sync>(rt: &R, alloc: Global, input: &[u8]) -> O
         workers: 2,
         compressors: 1,
         sections: Sectioning::AtMost(1),
+        most: 0,
     };
     let mut reader = Watched::new(input);
     let mut writer = Watched::new(Vec::new(alloc));

@@ -15,6 +15,7 @@ fn kept<R: Threads + Wait + Sync>(rt: &R, alloc: Global, input: &[u8]) -> Option
         workers: 2,
         compressors: 0,
         sections: Sectioning::BySync,
+        most: 0,
     };
     let mut reader = Watched::new(input);
     let mut tape = Tape::new(alloc, 7, Vec::new(alloc));

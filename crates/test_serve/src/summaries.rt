@@ -24,6 +24,7 @@ fn counted<R: Threads + Wait + Sync>(
         workers,
         compressors: 0,
         sections,
+        most: 0,
     };
     let mut reader = Watched::new(input);
     let mut writer = Watched::new(Vec::new(alloc));

@@ -2,10 +2,10 @@
 
 use arrayvec::ArrayVec;
 use bl_model::{Next, Reply, Watched};
-use bl_serve_lines::ServeFault;
 use bl_serve_lines::number::{number, three_numbers, two_numbers};
 use bl_serve_lines::print::{Response, push_line, push_row};
 use bl_serve_lines::source::{Cut, KEPT, Source};
+use bl_serve_lines::{ServeFault, lines_alone_keep_order};
 use std::alloc::Global;
 use std::io;
 use std::io::{ErrorKind, Read};
@@ -251,4 +251,9 @@ fn faults_have_words(rt: HostRuntime) -> Result<(), Fail> {
         assert!(rt; has_words(rt.alloc(), &fault, words)?);
     }
     Ok(())
+}
+
+#[test]
+fn the_law_of_lines_does_nothing() {
+    lines_alone_keep_order();
 }

@@ -10,13 +10,13 @@ use Rattle.bl_serve.specs.Joining.{IsOutputOf, IsWhole}
 use Rattle.bl_serve.proofs.Holding.{own_together}
 use Rattle.bl_serve.proofs.Keeping.{all_low}
 use Rattle.bl_serve.proofs.Shares.{chunk, collected_whole, turns_long, lent}
-use Rattle.bl_serve.proofs.Noting.{still_note}
+use Rattle.bl_serve.proofs.Noting.{notes_more}
 use Rattle.bl_serve.proofs.Together.{all_began}
 use Rattle.bl_serve.proofs.chunks.answer_chunk.Goals as goal
 
 pub join_outputs-requires-clause-whole : goal.join_outputs-requires-clause-whole
 join_outputs-requires-clause-whole g c =
-    let index = c.args.service.now.index.now in let session = c.args.session in let deals = c.in_ok-deals.deals.items in
+    let index = c.args.index.now in let session = c.args.session in let deals = c.in_ok-deals.deals.items in
     let t = subst (λ (z : List ℕ × List (Option Request)). WorkOn c.args.service.now.keeps (suc session.totals.requests) z.0 z.1 session.handles.items c.work_abreast.new.handles.items c.work_abreast.new.slots) (λ i. (c.as_slice-3.ensures.value i, c.as_slice-2.ensures i)) c.in_ok-work_abreast.ensures.turns in
     let long = (turns_long _ _ _ _ _ _ _ t).1 in let slots = session.paired in let a = session.handles.ok in
     subst (λ (z : List ℕ). All (IsWhole z) c.in_ok-outputs.outputs.items) (sym c.as_slice-dealt.ensures.value)
@@ -30,7 +30,7 @@ join_outputs-requires-clause-low g c = let d = c.in_ok-deals.ensures.dealt in
 
 pub returns-clause-chunk : goal.returns-clause-chunk
 returns-clause-chunk g c =
-    let index = c.args.service.now.index.now in let session = c.args.session in let deals = c.in_ok-deals.deals.items in
+    let index = c.args.index.now in let session = c.args.session in let deals = c.in_ok-deals.deals.items in
     let t = subst (λ (z : List ℕ × List (Option Request)). WorkOn c.args.service.now.keeps (suc session.totals.requests) z.0 z.1 session.handles.items c.work_abreast.new.handles.items c.work_abreast.new.slots) (λ i. (c.as_slice-3.ensures.value i, c.as_slice-2.ensures i)) c.in_ok-work_abreast.ensures.turns in
     let long = (turns_long _ _ _ _ _ _ _ t).1 in let slots = session.paired in let a = session.handles.ok in
     let joins = c.in_ok-join_outputs.ensures.text in
@@ -66,7 +66,7 @@ returns-clause-noted g c keeps =
     let t = rw keeps at c.in_ok-work_abreast.ensures.turns in
     let long = (turns_long _ _ _ _ _ _ _ t).1 in let slots = session.paired in let a = session.handles.ok in
     let same = c.as_slice-4.ensures.value ∙ lent _ _ c.work_abreast.new.slots (omega (arith, long, slots, a)) in
-    still_note _ _ _ session.handles.items c.work_abreast.new.handles.items c.work_abreast.new.slots session.changes c.collect_changes.new.changes t
+    notes_more _ _ _ session.handles.items c.work_abreast.new.handles.items c.work_abreast.new.slots session.changes c.collect_changes.new.changes t
     (subst (All (λ (s : Slot). s.failed ≡ false)) (lent _ _ c.work_abreast.new.slots (omega (arith, long, slots, a))) c.in_ok-outputs.ensures.collects.none_failed)
     (c.in_ok-collect_changes.ensures.came ∙ ap (λ (z : List Slot). session.changes.came.items ++ flat_map (λ s. s.changes.came.items) z) same)
     (c.in_ok-collect_changes.ensures.went ∙ ap (λ (z : List Slot). session.changes.went.items ++ flat_map (λ s. s.changes.went.items) z) same)

@@ -1,24 +1,30 @@
-use Rattle.std.proofs.Common.{◌∙◌, arith}
-use Rattle.bl_index.specs.Calls.{first_of}
-use Rattle.bl_map.specs.Handles.{seats_of}
-use Rattle.bl_serve.proofs.Holding.{own_together, holds}
-use Rattle.bl_serve.proofs.Noting.{notes_met}
-use Rattle.bl_serve.proofs.Shares.{chunk_own}
-use Rattle.bl_serve.proofs.Together.{all_seated, seats_long}
+use Rattle.std.proofs.Common.{◌∙◌, ◌++◌, ◌<◌, ℕ, List, length, ap, sym, subst, arith}
+use Rattle.bl_serve_lines.specs.declared.serving.Totals.{Totals}
+use Rattle.bl_serve.specs.Holding.{HoldsChunk}
+use Rattle.bl_serve.specs.Standing.{index_in}
+use Rattle.bl_serve.proofs.Chunked.{holds_behind, leads_behind}
+use Rattle.bl_serve.proofs.Standing.{rests_on}
 use Rattle.bl_serve.proofs.chunks.run_chunk.Goals as goal
 
-pub met-requires : goal.met-requires
-met-requires g c = all_seated c.args.service.now.index.now c.in_ok-session.session.handles.items
-    (chunk_own (first_of c.args.service.now.index.now) c.args.service.now.index.now _ _ _ _ (seats_of c.args.session.handles.items) (seats_of c.in_ok-session.session.handles.items) (own_together _ _ _ c.requires.met) c.in_ok-session.ensures.chunk.2)
+pub answer_at-requires-clause-rests : goal.answer_at-requires-clause-rests
+answer_at-requires-clause-rests g c κs within = rests_on c.args.session.ground c.args.session.passes.items c.in_ok-session.session.ground c.in_ok-session.session.passes.items c.requires.rests c.in_ok-session.ensures.resettles
 
 pub returns-clause-held : goal.returns-clause-held
-returns-clause-held g c = let some = c.args.session.some in let d = c.args.session.handles.ok in let e = seats_long c.args.session.handles.items in
-    let chunk = c.in_ok-session.ensures.chunk in let m = c.in_ok-met.ensures in (
-      chunk.0,
-      m.2 ∙ chunk.1,
-      holds c.args.service.now.index.now c.args.session.totals.requests c.args.lines.now chunk.0 (seats_of c.args.session.handles.items) (seats_of c.in_ok-session.session.handles.items) _ (omega (arith, some, d, e)) c.requires.met chunk.2 m.3,
+returns-clause-held g c =
+    let before = c.in_ok-session.session in
+    let h = c.in_ok-back.ensures.held in
+    let some : 0 < length before.passes.items = (let a = before.some in let b = before.passes.ok in omega (arith, a, b)) in
+    let number = ap (λ (t : Totals). t.requests) c.in_ok-session.ensures.totals in (
+      h.0,
+      h.1 ∙ ap (λ (z : List ℕ). z ++ h.0) c.in_ok-session.ensures.text,
+      holds_behind c.args.session.ground c.args.session.passes.items before.ground before.passes.items c.in_ok-back.back.ground c.in_ok-back.back.passes.items c.args.session.totals.requests c.args.lines.now h.0 c.requires.rests some c.in_ok-session.ensures.resettles c.in_ok-back.ensures.ground
+          (subst (λ (n : ℕ). HoldsChunk (index_in before.ground) n c.args.lines.now h.0 before.passes.items c.in_ok-back.back.passes.items) number h.2),
     )
 
-pub returns-clause-noted : goal.returns-clause-noted
-returns-clause-noted g c keeps before noted = let m = c.in_ok-met.ensures in
-    rw m.1 (notes_met (first_of c.args.service.now.index.now) before (seats_of c.in_ok-session.session.handles.items) _ c.in_ok-session.session.changes m.3 (c.in_ok-session.ensures.noted keeps before noted))
+pub returns-clause-leads : goal.returns-clause-leads
+returns-clause-leads g c keeps =
+    let before = c.in_ok-session.session in
+    let h = c.in_ok-back.ensures.held in
+    let some : 0 < length before.passes.items = (let a = before.some in let b = before.passes.ok in omega (arith, a, b)) in
+    leads_behind c.args.session.ground c.args.session.passes.items before.ground before.passes.items c.in_ok-back.back.ground c.in_ok-back.back.passes.items before.totals.requests c.args.lines.now h.0 c.requires.rests some c.in_ok-session.ensures.resettles c.in_ok-back.ensures.ground h.2
+    c.histories_lead.ensures c.args.session.changes before.changes c.in_ok-back.back.changes c.in_ok-session.ensures.changes (c.in_ok-back.ensures.noted keeps)

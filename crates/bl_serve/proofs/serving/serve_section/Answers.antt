@@ -10,16 +10,15 @@ use Rattle.bl_serve_lines.specs.Served.{after_lines}
 use Rattle.bl_serve_lines.proofs.Sections.{behind_none, behind_both}
 use Rattle.bl_serve_lines.proofs.Known.{consumes_more}
 use Rattle.bl_index.specs.declared.index.Pass.{Pass}
-use Rattle.bl_map.specs.Handles.{seats_of}
-use Rattle.bl_serve.specs.declared.section_reader.SectionEnd.TheVariants as section_end
-use Rattle.bl_serve.specs.Noting.{HaveNoted}
-use Rattle.bl_serve.specs.Reading.{EndsReading}
-use Rattle.bl_serve.specs.Serving.{FailsSection, ServesSection, seen_by}
-use Rattle.bl_serve.proofs.Holding.{together_by_first}
-use Rattle.bl_serve.proofs.Led.{leads}
-use Rattle.bl_serve.proofs.Noting.{nothing_noted}
-use Rattle.bl_serve.proofs.Continuing.{HasServed, served_nothing, any_failed, ends_section, counts_all, serves_all, fails_answering, goes_on, finished_by, finished_none}
-use Rattle.bl_serve.proofs.Together.{seats_long}
+use Rattle.bl_journal.specs.Rows.{Leads}
+use Rattle.bl_serve_reading.specs.declared.section_reader.SectionEnd.TheVariants as section_end
+use Rattle.bl_serve.specs.declared.ground.Ground.{Ground}
+use Rattle.bl_serve.specs.Holding.{ServesSection}
+use Rattle.bl_serve.specs.Standing.{map_in, sizes_in}
+use Rattle.bl_serve_reading.specs.Reading.{EndsReading}
+use Rattle.bl_serve.specs.Serving.{FailsSection}
+use Rattle.bl_serve.proofs.Led.{leads_nowhere}
+use Rattle.bl_serve.proofs.Continuing.{HasServed, served_nothing, any_failed, ends_section, counts_all, serves_all, fails_answering, goes_on, finished_by, finished_none, rests_here}
 use Rattle.bl_serve.proofs.serving.serve_section.Goals as goal
 use Rattle.bl_serve.proofs.serving.serve_section.Goals.{then-open, else-open}
 
@@ -30,13 +29,14 @@ loop-init g c = let r = c.read_on.ensures in record {
   more = r.more;
   mid = c.args.ahead.now.source ++ r.more;
   consumed = r.consumed;
-  served = subst (λ (z : List Pass × Totals). HasServed c.args.service.now.sections c.args.service.now.index.now (seats_of c.args.session.handles.items) z.0 c.args.session.totals z.1 (c.args.ahead.now.source ++ r.more) (c.args.ahead.now.source ++ r.more) [] c.emptied-session.result.text.items)
-      (λ i. (sym (ap seats_of c.emptied-session.ensures.handles) i, sym c.emptied-session.ensures.totals i))
-      (served_nothing c.args.service.now.sections c.args.service.now.index.now (seats_of c.args.session.handles.items) c.args.session.totals (c.args.ahead.now.source ++ r.more) c.emptied-session.result.text.items c.emptied-session.ensures.text c.requires.met (let a = c.args.session.some in let d = c.args.session.handles.ok in let e = seats_long c.args.session.handles.items in omega (arith, a, d, e)) c.requires.requests);
+  served = subst (λ (z : Ground × List Pass × Totals). HasServed c.args.service.now.sections c.args.session.ground c.args.session.passes.items z.0 z.1 c.args.session.totals z.2 (c.args.ahead.now.source ++ r.more) (c.args.ahead.now.source ++ r.more) [] c.emptied-session.result.text.items)
+      (λ i. (sym c.emptied-session.ensures.ground i, sym c.emptied-session.ensures.passes i, sym c.emptied-session.ensures.totals i))
+      (served_nothing c.args.service.now.sections c.args.session.ground c.args.session.passes.items c.args.session.totals (c.args.ahead.now.source ++ r.more) c.emptied-session.result.text.items c.emptied-session.ensures.text c.requires.rests c.requires.requests);
   sections = r.same ∙ sym (behind_none c.args.service.now.sections);
   reads = subst (λ (n : Sectioning × ℕ). EndsReading n.0 c.read_on.new.ahead.end n.1 c.read_on.new.ahead.lines r.rest (c.args.ahead.now.source ++ r.more) c.read_on.new.ahead.source (IsAtEnd (g.R.Read.remaining c.read_on.new.reader.inner)) (c.read_on.new.reader.failed ≡ true)) (λ i. (sym (behind_none c.args.service.now.sections) i, c.most_behind-ahead.ensures i)) r.reads;
-  noted = λ keeps. subst (λ (z : List Pass). HaveNoted (seats_of c.args.session.handles.items) z c.emptied-session.result.changes) (sym (ap seats_of c.emptied-session.ensures.handles))
-      (nothing_noted (seats_of c.args.session.handles.items) c.emptied-session.result.changes c.emptied-session.ensures.came c.emptied-session.ensures.went);
+  leads = λ keeps. subst (λ (z : Ground × List Pass). Leads c.emptied-session.result.changes.came.items c.emptied-session.result.changes.went.items (map_in c.args.session.ground c.args.session.passes.items) (map_in z.0 z.1))
+      (λ i. (sym c.emptied-session.ensures.ground i, sym c.emptied-session.ensures.passes i))
+      (leads_nowhere c.emptied-session.result.changes.came.items c.emptied-session.result.changes.went.items (map_in c.args.session.ground c.args.session.passes.items) c.emptied-session.ensures.came c.emptied-session.ensures.went);
 }
 
 -- the section could not be read whole
@@ -50,13 +50,14 @@ returns-in_err-end-clause-serves g c = let i = c.loop.invariant in let p = err_f
       i.consumed,
       (
         c.loop.ahead.source,
-        inl (ends_section c.args.service.now.sections c.args.service.now.index.now (seats_of c.args.session.handles.items) (seats_of c.loop.session.handles.items) c.args.session.totals c.loop.session.totals (c.args.ahead.now.source ++ i.more) i.mid i.asked c.loop.session.text.items i.served (Err c.in_err-end.field-0.0) c.loop.chunk c.loop.ahead.lines i.rest c.loop.ahead.source
+        inl (ends_section c.args.service.now.sections c.args.session.ground c.args.session.passes.items c.loop.session.ground c.loop.session.passes.items c.args.session.totals c.loop.session.totals (c.args.ahead.now.source ++ i.more) i.mid i.asked c.loop.session.text.items i.served (Err c.in_err-end.field-0.0) c.loop.chunk c.loop.ahead.lines i.rest c.loop.ahead.source
             (IsAtEnd (g.R.Read.remaining c.loop.reader.inner)) (c.loop.reader.failed ≡ true) (λ is. absurd (let no : ⊥ = cc in no)) (rw was at i.reads)),
       ),
     )
 
-pub serve_chunk-requires-clause-met : goal.serve_chunk-requires-clause-met
-serve_chunk-requires-clause-met g c κs within = let i = c.loop.invariant in together_by_first c.args.service.now.index.now _ (seats_of c.loop.session.handles.items) i.served.some i.served.serves.holds.together
+pub serve_chunk-requires-clause-rests : goal.serve_chunk-requires-clause-rests
+serve_chunk-requires-clause-rests g c κs within = let i = c.loop.invariant in
+    rests_here c.args.service.now.sections c.args.session.ground c.args.session.passes.items c.loop.session.ground c.loop.session.passes.items c.args.session.totals c.loop.session.totals (c.args.ahead.now.source ++ i.more) i.mid i.asked c.loop.session.text.items i.served
 
 -- its next lines could not be answered
 pub returns-in_err-back-clause-serves : goal.returns-in_err-back-clause-serves
@@ -74,7 +75,7 @@ returns-in_err-back-clause-serves g c = let i = c.loop.invariant in let p = err_
         c.loop.ahead.source ++ m.0,
         subst (λ (z : List ℕ). FailsSection c.args.service.now.sections c.in_err-back.field-0.0 c.args.session.totals.requests (18446744073709551615 - c.args.session.totals.requests) (i.asked ++ c.swap.new.x) i.rest z (c.loop.ahead.source ++ m.0) (IsAtEnd (g.R.Read.remaining c.serve_chunk.new.reader.inner)) (c.serve_chunk.new.reader.failed ≡ true))
             (append_assoc c.args.ahead.now.source i.more m.0)
-            (fails_answering c.args.service.now.sections c.args.service.now.index.now (seats_of c.args.session.handles.items) (seats_of c.loop.session.handles.items) c.args.session.totals c.loop.session.totals (c.args.ahead.now.source ++ i.more) i.mid i.asked c.loop.session.text.items i.served c.in_err-back.field-0.0 c.in_ok-end.end (min c.loop.chunk (18446744073709551615 - c.loop.session.totals.requests)) (18446744073709551615 - c.args.session.totals.requests) c.swap.new.x i.rest c.loop.ahead.source m.0
+            (fails_answering c.args.service.now.sections c.args.session.ground c.args.session.passes.items c.loop.session.ground c.loop.session.passes.items c.args.session.totals c.loop.session.totals (c.args.ahead.now.source ++ i.more) i.mid i.asked c.loop.session.text.items i.served c.in_err-back.field-0.0 c.in_ok-end.end (min c.loop.chunk (18446744073709551615 - c.loop.session.totals.requests)) (18446744073709551615 - c.args.session.totals.requests) c.swap.new.x i.rest c.loop.ahead.source m.0
             (IsAtEnd (g.R.Read.remaining c.loop.reader.inner)) (c.loop.reader.failed ≡ true) (IsAtEnd (g.R.Read.remaining c.serve_chunk.new.reader.inner)) (c.serve_chunk.new.reader.failed ≡ true) e c.in_err-back.ensures.fault),
       ),
     )
@@ -93,7 +94,7 @@ returns-then-not-open-clause-serves g c = let i = c.loop.invariant in let r = c.
     ] in
     let idle = r.idle none in
     let grown : c.in_ok-back.back.text.items ≡ c.loop.session.text.items ++ c.in_ok-back.ensures.serves.0 = c.in_ok-back.ensures.serves.1 in
-    let all = ends_section c.args.service.now.sections c.args.service.now.index.now (seats_of c.args.session.handles.items) (seats_of c.loop.session.handles.items) c.args.session.totals c.loop.session.totals (c.args.ahead.now.source ++ i.more) i.mid i.asked c.loop.session.text.items i.served (Ok c.in_ok-end.end) c.loop.chunk c.swap.new.x i.rest c.loop.ahead.source
+    let all = ends_section c.args.service.now.sections c.args.session.ground c.args.session.passes.items c.loop.session.ground c.loop.session.passes.items c.args.session.totals c.loop.session.totals (c.args.ahead.now.source ++ i.more) i.mid i.asked c.loop.session.text.items i.served (Ok c.in_ok-end.end) c.loop.chunk c.swap.new.x i.rest c.loop.ahead.source
     (IsAtEnd (g.R.Read.remaining c.loop.reader.inner)) (c.loop.reader.failed ≡ true) last e in (
       i.asked ++ c.swap.new.x,
       i.rest,
@@ -103,20 +104,14 @@ returns-then-not-open-clause-serves g c = let i = c.loop.invariant in let r = c.
         any_failed c.args.service.now.sections c.in_ok-end.end (18446744073709551615 - c.args.session.totals.requests) (i.asked ++ c.swap.new.x) i.rest (c.args.ahead.now.source ++ i.more) c.serve_chunk.new.ahead.source (IsAtEnd (g.R.Read.remaining c.serve_chunk.new.reader.inner)) (c.loop.reader.failed ≡ true) (c.serve_chunk.new.reader.failed ≡ true)
             (subst (λ (z : List ℕ). EndsReading c.args.service.now.sections (Ok c.in_ok-end.end) (18446744073709551615 - c.args.session.totals.requests) (i.asked ++ c.swap.new.x) i.rest (c.args.ahead.now.source ++ i.more) z (IsAtEnd (g.R.Read.remaining c.serve_chunk.new.reader.inner)) (c.loop.reader.failed ≡ true)) (sym idle.1)
             (subst (λ (z : Option (List ℕ)). EndsReading c.args.service.now.sections (Ok c.in_ok-end.end) (18446744073709551615 - c.args.session.totals.requests) (i.asked ++ c.swap.new.x) i.rest (c.args.ahead.now.source ++ i.more) c.loop.ahead.source (IsAtEnd z) (c.loop.reader.failed ≡ true)) (sym idle.0) all)),
-        counts_all c.args.service.now.sections c.args.service.now.index.now (seats_of c.args.session.handles.items) (seats_of c.loop.session.handles.items) c.args.session.totals c.loop.session.totals (c.args.ahead.now.source ++ i.more) i.mid i.asked c.loop.session.text.items i.served c.in_ok-back.back.totals c.swap.new.x c.in_ok-end.end c.in_ok-back.ensures.counts,
-        subst (λ (z : List ℕ). ServesSection c.args.service.now.index.now c.args.session.totals.requests (i.asked ++ c.swap.new.x) c.in_ok-end.end z (seats_of c.args.session.handles.items) (seats_of c.in_ok-back.back.handles.items)) (sym grown) (serves_all c.args.service.now.sections c.args.service.now.index.now (seats_of c.args.session.handles.items) (seats_of c.loop.session.handles.items) c.args.session.totals c.loop.session.totals (c.args.ahead.now.source ++ i.more) i.mid i.asked c.loop.session.text.items i.served c.swap.new.x c.in_ok-end.end c.in_ok-back.ensures.serves.0 (seats_of c.in_ok-back.back.handles.items) c.in_ok-back.ensures.serves.2),
+        counts_all c.args.service.now.sections c.args.session.ground c.args.session.passes.items c.loop.session.ground c.loop.session.passes.items c.args.session.totals c.loop.session.totals (c.args.ahead.now.source ++ i.more) i.mid i.asked c.loop.session.text.items i.served c.in_ok-back.back.totals c.swap.new.x c.in_ok-end.end c.in_ok-back.ensures.counts,
+        subst (λ (z : List ℕ). ServesSection (sizes_in c.args.session.ground) c.args.session.ground c.args.session.totals.requests (i.asked ++ c.swap.new.x) c.in_ok-end.end z c.args.session.passes.items c.in_ok-back.back.ground c.in_ok-back.back.passes.items) (sym grown) (serves_all c.args.service.now.sections c.args.session.ground c.args.session.passes.items c.loop.session.ground c.loop.session.passes.items c.args.session.totals c.loop.session.totals (c.args.ahead.now.source ++ i.more) i.mid i.asked c.loop.session.text.items i.served c.swap.new.x c.in_ok-end.end c.in_ok-back.ensures.serves.0 c.in_ok-back.back.ground c.in_ok-back.back.passes.items c.in_ok-back.ensures.serves.2),
       ),
     )
 
 -- what was noted leads from map to map
 pub returns-then-not-open-clause-leads : goal.returns-then-not-open-clause-leads
-returns-then-not-open-clause-leads g c keeps =
-    let index = c.args.service.now.index.now in let olds = seats_of c.args.session.handles.items in let news = seats_of c.in_ok-back.back.handles.items in
-    let noted = c.in_ok-back.ensures.noted keeps olds (c.loop.invariant.noted keeps) in
-    let h = c.in_ok-back.ensures.serves.2.holds in
-    let some : 0 < length olds = (let a = c.args.session.some in let d = c.args.session.handles.ok in let e = seats_long c.args.session.handles.items in omega (arith, a, d, e)) in
-    let many : 0 < length news = (let a = c.in_ok-back.back.some in let d = c.in_ok-back.back.handles.ok in let e = seats_long c.in_ok-back.back.handles.items in omega (arith, a, d, e)) in
-    leads c.histories_lead.ensures index (seen_by olds) (seen_by news) olds news c.in_ok-back.back.changes some many c.requires.met (together_by_first index _ news many h.together) noted
+returns-then-not-open-clause-leads g c keeps = c.in_ok-back.ensures.leads keeps (map_in c.args.session.ground c.args.session.passes.items) (c.loop.invariant.leads keeps)
 
 -- they were answered, and it goes on
 pub loop-preserved : goal.loop-preserved
@@ -139,11 +134,11 @@ loop-preserved g c = let i = c.loop.invariant in let r = c.in_ok-back.ensures.re
       more = i.more ++ r.more;
       mid = c.loop.ahead.source ++ r.more;
       consumed = consumes_more _ _ _ _ _ i.consumed r.consumed;
-      served = subst (λ (z : List ℕ × List ℕ). HasServed c.args.service.now.sections c.args.service.now.index.now (seats_of c.args.session.handles.items) (seats_of c.in_ok-back.back.handles.items) c.args.session.totals c.in_ok-back.back.totals z.0 (c.loop.ahead.source ++ r.more) (i.asked ++ c.swap.new.x) z.1)
+      served = subst (λ (z : List ℕ × List ℕ). HasServed c.args.service.now.sections c.args.session.ground c.args.session.passes.items c.in_ok-back.back.ground c.in_ok-back.back.passes.items c.args.session.totals c.in_ok-back.back.totals z.0 (c.loop.ahead.source ++ r.more) (i.asked ++ c.swap.new.x) z.1)
           (λ j. (append_assoc c.args.ahead.now.source i.more r.more j, sym grown j))
-          (goes_on c.args.service.now.sections c.args.service.now.index.now (seats_of c.args.session.handles.items) (seats_of c.loop.session.handles.items) c.args.session.totals c.loop.session.totals (c.args.ahead.now.source ++ i.more) i.mid i.asked c.loop.session.text.items i.served c.in_ok-back.back.totals c.in_ok-end.end (min c.loop.chunk (18446744073709551615 - c.loop.session.totals.requests)) c.swap.new.x i.rest c.loop.ahead.source r.more c.in_ok-back.ensures.serves.0 (seats_of c.in_ok-back.back.handles.items) (IsAtEnd (g.R.Read.remaining c.loop.reader.inner)) (c.loop.reader.failed ≡ true) is e (omega arith)
+          (goes_on c.args.service.now.sections c.args.session.ground c.args.session.passes.items c.loop.session.ground c.loop.session.passes.items c.args.session.totals c.loop.session.totals (c.args.ahead.now.source ++ i.more) i.mid i.asked c.loop.session.text.items i.served c.in_ok-back.back.totals c.in_ok-end.end (min c.loop.chunk (18446744073709551615 - c.loop.session.totals.requests)) c.swap.new.x i.rest c.loop.ahead.source r.more c.in_ok-back.ensures.serves.0 c.in_ok-back.back.ground c.in_ok-back.back.passes.items (IsAtEnd (g.R.Read.remaining c.loop.reader.inner)) (c.loop.reader.failed ≡ true) is e (omega arith)
           c.in_ok-back.ensures.counts c.in_ok-back.ensures.serves.2);
       sections = r.same ∙ left;
       reads = subst (λ (n : Sectioning × ℕ). EndsReading n.0 c.serve_chunk.new.ahead.end n.1 c.serve_chunk.new.ahead.lines r.rest (c.loop.ahead.source ++ r.more) c.serve_chunk.new.ahead.source (IsAtEnd (g.R.Read.remaining c.serve_chunk.new.reader.inner)) (c.serve_chunk.new.reader.failed ≡ true)) (λ j. (left j, few j)) r.reads;
-      noted = λ keeps. c.in_ok-back.ensures.noted keeps (seats_of c.args.session.handles.items) (i.noted keeps);
+      leads = λ keeps. c.in_ok-back.ensures.leads keeps (map_in c.args.session.ground c.args.session.passes.items) (i.leads keeps);
     }

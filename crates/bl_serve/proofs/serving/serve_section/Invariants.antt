@@ -3,9 +3,9 @@ use Rattle.std.specs.Prelude.{Option, min, true}
 use Rattle.std.specs.Io.KnownBytes.{Consumes, IsAtEnd}
 use Rattle.bl_serve_lines.specs.declared.request.Request.{Request}
 use Rattle.bl_serve_lines.specs.Served.{after_lines}
-use Rattle.bl_map.specs.Handles.{seats_of}
-use Rattle.bl_serve.specs.Noting.{HaveNoted}
-use Rattle.bl_serve.specs.Reading.{EndsReading}
+use Rattle.bl_journal.specs.Rows.{Leads}
+use Rattle.bl_serve.specs.Standing.{map_in}
+use Rattle.bl_serve_reading.specs.Reading.{EndsReading}
 use Rattle.bl_serve.proofs.Continuing.{HasServed}
 use Rattle.bl_serve.proofs.serving.serve_section.Given as goal
 
@@ -17,8 +17,8 @@ invariant-loop g l = record {
   more : List ℕ;
   mid : List ℕ;
   consumed : Consumes (g.R.Read.remaining l.fn.reader.inner) (g.R.Read.remaining l.reader.inner) more;
-  served : HasServed l.service.sections l.service.index.now (seats_of l.fn.session.handles.items) (seats_of l.session.handles.items) l.fn.session.totals l.session.totals (l.fn.ahead.source ++ more) mid asked l.session.text.items;
+  served : HasServed l.service.sections l.fn.session.ground l.fn.session.passes.items l.session.ground l.session.passes.items l.fn.session.totals l.session.totals (l.fn.ahead.source ++ more) mid asked l.session.text.items;
   sections : l.ahead.sections ≡ after_lines l.service.sections (length asked);
   reads : EndsReading (after_lines l.service.sections (length asked)) l.ahead.end (min l.chunk (2 ^ 64 - 1 - l.session.totals.requests)) l.ahead.lines rest mid l.ahead.source (IsAtEnd (g.R.Read.remaining l.reader.inner)) (l.reader.failed ≡ true);
-  noted : l.service.keeps ≡ true → HaveNoted (seats_of l.fn.session.handles.items) (seats_of l.session.handles.items) l.session.changes;
+  leads : l.service.keeps ≡ true → Leads l.session.changes.came.items l.session.changes.went.items (map_in l.fn.session.ground l.fn.session.passes.items) (map_in l.session.ground l.session.passes.items);
 }

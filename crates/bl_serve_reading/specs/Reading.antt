@@ -8,11 +8,11 @@ use Rattle.bl_serve_lines.specs.declared.serving.Sectioning.{Sectioning}
 use Rattle.bl_serve_lines.specs.declared.serving.Sectioning.TheVariants.{BySync, AtMost}
 use Rattle.bl_serve_lines.specs.declared.serving.ServeFault.{ServeFault}
 use Rattle.bl_serve_lines.specs.declared.serving.ServeFault.TheVariants.{Read, Write, Memory, Lost}
-use Rattle.bl_serve.specs.declared.section_reader.Reading.{Reading}
-use Rattle.bl_serve.specs.declared.section_reader.Reading.TheVariants as reading
-use Rattle.bl_serve.specs.declared.section_reader.ReadAhead.{ReadAhead}
-use Rattle.bl_serve.specs.declared.section_reader.SectionEnd.{SectionEnd}
-use Rattle.bl_serve.specs.declared.section_reader.SectionEnd.TheVariants.{ByLine, Rest, Finished}
+use Rattle.bl_serve_reading.specs.declared.section_reader.Reading.{Reading}
+use Rattle.bl_serve_reading.specs.declared.section_reader.Reading.TheVariants as reading
+use Rattle.bl_serve_reading.specs.declared.section_reader.ReadAhead.{ReadAhead}
+use Rattle.bl_serve_reading.specs.declared.section_reader.SectionEnd.{SectionEnd}
+use Rattle.bl_serve_reading.specs.declared.section_reader.SectionEnd.TheVariants.{ByLine, Rest, Finished}
 use Rattle.bl_serve_lines.specs.Text.{Means}
 use Rattle.bl_serve_lines.specs.Lines.{HasNoLf}
 use Rattle.bl_serve_lines.specs.Served.{IsShort}

@@ -1,7 +1,7 @@
 //! What the lines of a chunk ask for, counted as they are read.
 
 ghost use Rattle.std.specs.Prelude.{◌≡◌, List, [], ◌∷◌, ◌++◌, Option, length, is_none, count_by, OnOk};
-ghost use Rattle.bl_serve.specs.Sections.{is_sync};
+ghost use Rattle.bl_serve_reading.specs.Syncs.{is_sync};
 
 use bl_model::Op;
 use bl_serve_lines::request::Request;
@@ -18,6 +18,7 @@ pub struct ParsedLines {
     syncs: usize,
     operations: usize,
     deletions: usize,
+    insertions: usize,
 }
 
 // A clause sees what the lines ask for. Of the counts it sees how many lines are malformed, and how many are a sync: what the others
@@ -25,7 +26,7 @@ pub struct ParsedLines {
 impl Model for ParsedLines {
     ghost use Rattle.std.specs.Prelude.{◌≡◌, List, Option, is_none, count_by};
     ghost use Rattle.bl_serve_lines.specs.declared.request.Request.{Request};
-    ghost use Rattle.bl_serve.specs.Sections.{is_sync};
+    ghost use Rattle.bl_serve_reading.specs.Syncs.{is_sync};
 
     ghost Value = { List (Option Request) };
 
@@ -47,6 +48,7 @@ impl ParsedLines {
             syncs: 0,
             operations: 0,
             deletions: 0,
+            insertions: 0,
         }
     }
 
@@ -66,6 +68,10 @@ impl ParsedLines {
                 self.operations = self.operations.saturating_add(1);
                 self.deletions = self.deletions.saturating_add(1);
             }
+            Some(Request::Ask(Op::Insert(_, _) | Op::Put(_, _))) => {
+                self.operations = self.operations.saturating_add(1);
+                self.insertions = self.insertions.saturating_add(1);
+            }
             Some(_) => self.operations = self.operations.saturating_add(1),
         }
         Ok(())
@@ -81,6 +87,7 @@ impl ParsedLines {
         self.syncs = 0;
         self.operations = 0;
         self.deletions = 0;
+        self.insertions = 0;
     }
 
     /// What the lines ask for, in their order: none where a line is malformed.
@@ -128,5 +135,10 @@ impl ParsedLines {
     /// How many of these delete.
     pub fn deletions(&self) -> usize {
         self.deletions
+    }
+
+    /// How many of these may enter a key.
+    pub fn insertions(&self) -> usize {
+        self.insertions
     }
 }

@@ -1,7 +1,7 @@
 use Rattle.std.proofs.Common.{◌≡◌, ℕ, List, [], ◌++◌, length}
 use Rattle.std.specs.Io.KnownBytes.{Consumes}
-use Rattle.bl_serve.specs.Reading.{AskNoEnd, ReadsLines}
-use Rattle.bl_serve.proofs.section_reader.read_section.Given as goal
+use Rattle.bl_serve_reading.specs.Reading.{AskNoEnd, ReadsLines}
+use Rattle.bl_serve_reading.proofs.section_reader.read_section.Given as goal
 
 abbrev pub invariant-loop-taken : goal.invariant-loop-taken
 invariant-loop-taken g l = record {

@@ -3,8 +3,8 @@ use Rattle.std.proofs.lemmas.List.{take_all}
 use Rattle.bl_serve_lines.specs.Text.{Means}
 use Rattle.bl_serve_lines.proofs.Known.{consumes_start}
 use Rattle.bl_serve_lines.proofs.Long.{long_line}
-use Rattle.bl_serve.proofs.Cutting.{behind_line}
-use Rattle.bl_serve.proofs.section_reader.read_line.Goals as goal
+use Rattle.bl_serve_reading.proofs.Cutting.{behind_line}
+use Rattle.bl_serve_reading.proofs.section_reader.read_line.Goals as goal
 
 -- the whole line was kept
 pub returns-in-Ok-Whole : goal.returns-in-Ok-Whole

@@ -9,9 +9,9 @@ use Rattle.bl_serve_lines.specs.declared.request.Request.TheVariants.{Sync}
 use Rattle.bl_serve_lines.specs.declared.serving.Sectioning.{Sectioning}
 use Rattle.bl_serve_lines.specs.declared.serving.Sectioning.TheVariants.{BySync, AtMost}
 use Rattle.bl_serve_lines.proofs.Sections.{short_none}
+use Rattle.bl_serve_lines.proofs.Known.{zip_append}
 use Rattle.bl_serve_lines.specs.Lines.{HasNoLf}
-use Rattle.bl_serve.specs.Reading.{IsReadAs, bytes_of, AsksEnd, AskNoEnd, AskEndLast, ReadsLines}
-use Rattle.bl_serve_worker.proofs.Lines.{zip_append}
+use Rattle.bl_serve_reading.specs.Reading.{IsReadAs, bytes_of, AsksEnd, AskNoEnd, AskEndLast, ReadsLines}
 
 no_lf : HasNoLf []
 no_lf = All-nil (λ b. b ≢ 10)

@@ -1,9 +1,9 @@
 use Rattle.std.proofs.Common.{◌≡◌, ℕ, ◌++◌, ◌∷◌, [], refl, ap, sym, subst, length, arith, inl, inr, length-append}
 use Rattle.std.proofs.lemmas.Result.{err_from_is_err_and}
 use Rattle.bl_serve_lines.proofs.Known.{consumes_more, consumes_start}
-use Rattle.bl_serve.specs.Reading.{AsksEnd, AskNoEnd}
-use Rattle.bl_serve.proofs.Cutting.{asks_none, asks_more, asks_end, reads_none, reads_more, reads_rest, reads_end, reads_failed}
-use Rattle.bl_serve.proofs.section_reader.read_section.Goals as goal
+use Rattle.bl_serve_reading.specs.Reading.{AsksEnd, AskNoEnd}
+use Rattle.bl_serve_reading.proofs.Cutting.{asks_none, asks_more, asks_end, reads_none, reads_more, reads_rest, reads_end, reads_failed}
+use Rattle.bl_serve_reading.proofs.section_reader.read_section.Goals as goal
 
 pub loop-taken-init : goal.loop-taken-init
 loop-taken-init g c = record {

@@ -1,8 +1,8 @@
 use Rattle.std.proofs.Common.{[], refl, ap, sym, subst, length, arith, inr}
 use Rattle.bl_serve_lines.proofs.Known.{consumes_start}
-use Rattle.bl_serve.specs.Reading.{AskNoEnd}
-use Rattle.bl_serve.proofs.Cutting.{asks_none, reads_none}
-use Rattle.bl_serve.proofs.section_reader.read_on.Goals as goal
+use Rattle.bl_serve_reading.specs.Reading.{AskNoEnd}
+use Rattle.bl_serve_reading.proofs.Cutting.{asks_none, reads_none}
+use Rattle.bl_serve_reading.proofs.section_reader.read_on.Goals as goal
 
 -- nothing is read
 pub returns-else-ahead-gt0 : goal.returns-else-ahead-gt0

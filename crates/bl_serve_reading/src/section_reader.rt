@@ -3,7 +3,7 @@
 ghost use Rattle.std.specs.Prelude.{◌≡◌, ℕ, ◌+◌, ◌≤◌, List, [], ◌∷◌, ◌++◌, ◌↔◌, IsTrue, Some, true, IfOk, OnOk};
 ghost use Rattle.std.specs.Io.KnownBytes.{Consumes, IsAtEnd};
 ghost use Rattle.bl_serve_lines.specs.declared.request.Request.TheVariants.{Sync};
-ghost use Rattle.bl_serve.specs.Reading.{AsksEnd, EndsReading, ReadsLine, ReadsOn};
+ghost use Rattle.bl_serve_reading.specs.Reading.{AsksEnd, EndsReading, ReadsLine, ReadsOn};
 
 use crate::parsed_lines::ParsedLines;
 use arrayvec::ArrayVec;
