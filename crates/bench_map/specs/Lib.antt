@@ -1,2 +1,1 @@
-pub mod Rests
 pub mod Workers

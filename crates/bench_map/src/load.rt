@@ -98,7 +98,7 @@ impl Load {
 }
 
 /// A number that looks random, another one for each.
-pub(crate) fn scattered(number: u64) -> u64 {
+fn scattered(number: u64) -> u64 {
     let first = number.wrapping_add(1).wrapping_mul(0x9e37_79b9_7f4a_7c15);
     let second = (first ^ (first >> 30)).wrapping_mul(0xbf58_476d_1ce4_e5b9);
     let third = (second ^ (second >> 27)).wrapping_mul(0x94d0_49bb_1331_11eb);

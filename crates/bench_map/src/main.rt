@@ -1,12 +1,11 @@
 //! Loads on a map, for benchmarks and checks. `bench_map index ..` is one on the index below it, `record ..` writes down calls (`checks/linearizable`),
-//! `room ..` moves a window of rows (`bench/room`), `grow ..` lets a map grow and shrink (`bench/growth`), and other words name a load of so many
-//! threads (`bench/large`, `bench/groups`). Behind a word `then` stand the words of another load.
+//! `room ..` moves a window of rows (`bench/room`), and other words name a load of so many threads (`bench/large`, `bench/groups`). Behind a word
+//! `then` stand the words of another load.
 #![tactic(auto)]
 
 ghost use Rattle.std.specs.Prelude.{All, IfSome};
 ghost use Rattle.bl_map.specs.Maps.{AreSeatsOf, IsHandleOf};
 
-mod grow;
 mod index;
 mod load;
 mod record;
@@ -53,7 +52,6 @@ fn do_load<R: Print + Eprint + Threads + Wait + Clock + Sync>(
     words: &[String],
 ) -> anyhow::Result<()> {
     match words.first().map_or("", |word| word.as_str()) {
-        "grow" => grow::run_load(rt, alloc, words),
         "index" => index::run_load(rt, alloc, words),
         "record" => record::write_down(rt, alloc, words),
         "room" => room::move_window(rt, alloc, words),

@@ -1,5 +1,0 @@
-use Rattle.bench_map.specs.Rests.{IsAtRest}
-use Rattle.bench_map.proofs.grow.shrink_all.Given as goal
-
-abbrev pub invariant-loop-round : goal.invariant-loop-_round
-invariant-loop-round g l = IsAtRest l.rest
