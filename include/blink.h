@@ -234,11 +234,11 @@ BLINK_INLINE int32_t blink_resize(blink_seat *seats, size_t count, uint32_t page
  *   BLINK_CLOSED      the seat is closed; `*is_short` is as it was */
 BLINK_INLINE int32_t blink_is_short(blink_seat *seat, bool *is_short);
 
-/* Gives a map fewer pages, by all its seats, while no other thread is in a call of it: its
- * rows are listed into the array `rows`, which has room for `most` of them, an image of
- * them is made in an array with room for so many bytes, twelve rows a leaf, a map of so
- * many pages is opened from that, and then the old one is closed. But for BLINK_OK the map
- * is as it was. A seat that is not among these would keep the old map for itself.
+/* Gives a map fewer pages, by all its seats, while no other thread is in a call of it:
+ * its rows are listed into the array `rows`, which has room for `most` of them, an image
+ * of them is made in an array with room for so many bytes, twelve rows a leaf, a map of
+ * so many pages is opened from that, and then the old one is closed. But for BLINK_OK the
+ * map is as it was. A seat that is not among these would keep the old map for itself.
  *   BLINK_OK          it has so many pages
  *   BLINK_BAD_PAGES   `pages` is not 4 to 2^28
  *   BLINK_BAD_SEATS   `count` is not 1 to 64
@@ -252,8 +252,8 @@ BLINK_INLINE int32_t blink_shrink(blink_seat *seats, size_t count, uint32_t page
                                   blink_row *rows, size_t most, uint8_t *bytes,
                                   size_t room);
 
-/* Whether less than an eighth of the pages is used: time to shrink, by two. A map that has
- * shrunk so uses less than a quarter of them, and is not soon short.
+/* Whether less than an eighth of the pages is used: time to shrink, by two. A map that
+ * has shrunk so uses less than a quarter of them, and is not soon short.
  *   BLINK_OK          `*is_sparse` says so
  *   BLINK_CLOSED      the seat is closed; `*is_sparse` is as it was */
 BLINK_INLINE int32_t blink_is_sparse(blink_seat *seat, bool *is_sparse);
