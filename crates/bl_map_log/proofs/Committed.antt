@@ -1,6 +1,6 @@
 -- A commit: all handles have met, what they had noted is put to the log, and they let it go.
 use Rattle.std.proofs.Common.{◌≡◌, ◌⊎◌, inl, inr, ℕ, zero, suc, ◌+◌, List, [], ◌∷◌, ◌++◌, Option, length, get_or, refl, sym, ap, ◌∙◌, subst, append-nil}
-use Rattle.std.specs.Prelude.{All, flat_map, Result, Ok, Err, OnOk}
+use Rattle.std.specs.Prelude.{All, flat_map, Result, Ok, Err, IsErr, OnOk}
 use Rattle.std.specs.List.{AllZip}
 use Rattle.std.proofs.lemmas.List.Elements.{All-nil, All-cons, All-head, All-tail}
 use Rattle.bl_model.specs.declared.operation.Entry.{Entry}
@@ -15,14 +15,13 @@ use Rattle.bl_claims.specs.Trails.{Trail}
 use Rattle.bl_claims.specs.Seeing.{IsLinearizable, AreWithin, GoesOnFrom, own}
 use Rattle.bl_index.specs.Calls.{first_of, passes_of, IsPassOf, trail}
 use Rattle.bl_index.specs.declared.index.Index.{Index}
-use Rattle.bl_layout.specs.declared.layout.Layout.{Layout}
 use Rattle.bl_map.specs.declared.handle.Handle.{Handle}
 use Rattle.bl_map.specs.declared.map.Map.{Map}
 use Rattle.bl_map.specs.Handles.{IsSameHandle, KeepsHints, HasKeptUp, AreOfOne, first_map_of, index_of, number_of_seat, seen_by}
 use Rattle.bl_map_log.specs.declared.handle.NotingHandle.{NotingHandle}
 use Rattle.bl_map_log.specs.declared.log.MapLog.{MapLog}
 use Rattle.bl_map_log.specs.Notes.{HasNoted, IsNotingOf, IsCleared, IsClearedOf, KeepsNotes, came_noted, went_noted, done_in}
-use Rattle.bl_map_log.specs.Meetings.{HasSeenMore, MakesNoCall, HasMet, HaveMet, AreMet, AreOfOneMap, AllOfOneMap}
+use Rattle.bl_map_log.specs.Meetings.{HasSeenMore, MakesNoCall, HasMet, HaveMet, AreMet, AreOfOneMap}
 use Rattle.bl_map_log.specs.Commits.{AreFrom, AreAllOf, IsWhole, HasLog, HasAllOf, Commits, CallsKeepLog, file_of, map_told}
 use Rattle.bl_map_log.proofs.Seen.{goes_on, goes_self, between, seen_then, noted_still, done_by}
 use Rattle.bl_map_log.proofs.Each.{zip_weaker, zip_goes, zip_front, zip_then}
@@ -33,9 +32,14 @@ use Rattle.bl_map_log.proofs.Led.{HistoriesLead, Gives, leads}
 of_one : (map : Map) (one two : NotingHandle) → IsNotingOf map one → IsNotingOf map two → AreOfOneMap one two
 of_one map one two a b = subst (λ (z : Index). IsPassOf z two.handle.pass) (b ∙ sym a) two.handle.own
 
-pub all_of_one : (map : Map) (handles : List NotingHandle) → All (IsNotingOf map) handles → AllOfOneMap handles
-all_of_one map [] all = tt
-all_of_one map (one ∷ others) all = λ k d low. of_one map one (get_or others k d) (All-head (IsNotingOf map) one others all) (All-tail (IsNotingOf map) one others all k d low)
+pub all_of_one : (map : Map) (one : NotingHandle) (others : List NotingHandle) → IsNotingOf map one → All (IsNotingOf map) others → All (AreOfOneMap one) others
+all_of_one map one others of all = λ k d low. of_one map one (get_or others k d) of (all k d low)
+
+pub both_of : (map : Map) (one : NotingHandle) (others : List NotingHandle) → IsNotingOf map one → All (IsNotingOf map) others → All (IsNotingOf map) (one ∷ others)
+both_of map one others of all = All-cons (IsNotingOf map) one others of all
+
+pub parts_of : (map : Map) (one : NotingHandle) (others : List NotingHandle) → All (IsNotingOf map) (one ∷ others) → IsNotingOf map one × All (IsNotingOf map) others
+parts_of map one others all = (All-head (IsNotingOf map) one others all, All-tail (IsNotingOf map) one others all)
 
 same_map : (map : Map) (a b : NotingHandle) → IsNotingOf map a → IsSameHandle a.handle b.handle → IsNotingOf map b
 same_map map a b of same = (λ i. (same.0 i).now) ∙ of
@@ -81,7 +85,7 @@ pub record Gathered (map : Map) (base : Trail) (olds mets : List NotingHandle) :
   pub met : AllZip (HasMet now) olds mets
 
 within_of : (map : Map) (h : NotingHandle) → IsNotingOf map h → AreWithin (passes_of map.index) (seen_by h.handle)
-within_of map h of = subst (λ (z : Index). AreWithin (passes_of z) (seen_by h.handle)) of (subst (λ (z : Layout). AreWithin z.passes (trail h.handle.pass)) h.handle.own.1 h.handle.pass.within)
+within_of map h of = subst (λ (z : Index). AreWithin (passes_of z) (seen_by h.handle)) of (subst (λ (z : ℕ). AreWithin z (trail h.handle.pass)) (λ i. (h.handle.own.1 i).passes) h.handle.pass.within)
 
 legal_of : (map : Map) (h : NotingHandle) → IsNotingOf map h → IsLinearizable (first_map_of h.handle) (seen_by h.handle) → IsLinearizable (first_of map.index) (seen_by h.handle)
 legal_of map h of legal = subst (λ (z : Index). IsLinearizable (first_of z) (seen_by h.handle)) of legal
@@ -202,19 +206,23 @@ cleared_of map mets news all k = zip_goes (IsNotingOf map) (IsNotingOf map) IsCl
 
 -- ---- how a commit ends
 
+pub none_ok : (result : Result (Unit {0}) LogFault) (P : Type 0) → IsErr result → OnOk result P
+none_ok (Ok done) P failed = absurd (let no : ⊥ = cc in no)
+none_ok (Err fault) P failed = tt
+
 module _ {D : Type 0} (seen : D → List ℕ) (moment : D → ℕ) (leaves : D → ℕ → List ℕ → Type 0) (map : Map) (base : Trail) (olds mets : List NotingHandle) (old : MapLog D) (h : HasLog seen moment leaves map base olds old) (of : All (IsNotingOf map) olds) (met : AreMet olds mets) where
   all_in : Gathered map base olds mets
   all_in = gathered map base olds mets h.whole of h.noted met
 
   -- there was no memory to put together what was noted, and nothing was written
-  pub not_collected : (fault : LogFault) (new : MapLog D) → file_of new ≡ file_of old → Commits seen moment leaves map base (Err fault) olds mets old new
-  not_collected fault new same = record {
+  pub not_collected : (result : Result (Unit {0}) LogFault) → IsErr result → (new : MapLog D) → file_of new ≡ file_of old → Commits seen moment leaves map base result olds mets old new
+  not_collected result failed new same = record {
     now = all_in.now;
     later = all_in.later;
     all = has_all map base olds mets all_in;
     crash = subst (λ (z : D). LeavesOnly moment leaves (file_of old) z (λ c. IsLogOf c (map_told map base) ⊎ IsLogOf c (map_told map all_in.now))) (sym same)
         (started moment leaves (file_of old) (λ c. IsLogOf c (map_told map base) ⊎ IsLogOf c (map_told map all_in.now)) (λ c left. inl (leaves_log seen moment leaves (map_told map base) old.journal h.kept c left)));
-    kept = tt;
+    kept = none_ok result (HasLog seen moment leaves map all_in.now mets new × All IsCleared mets) failed;
   }
 
   -- the changes lead from the one map to the other, and were put to the log, or not

@@ -172,7 +172,7 @@ pub keeps_range : (pages from : ℕ) (to : Option ℕ) (rounds : ℕ) (result : 
 keeps_range pages from None rounds result before after P Q a b same ranged none n = keeps_ranged pages from None rounds result before after a b same (ranged tt) n
 keeps_range pages from (Some to) rounds result before after P Q a b same ranged none n = elim (cases_lt from to) [
   | inl below ↦ keeps_ranged pages from (Some to) rounds result before after a b same (ranged below) n
-  | inr above ↦ let still = (none (λ below. absurd (omega (arith, below, above)))).2.1 in keeps_reading [] a b (All-nil (λ (x : Entry). IsRead x.op)) (record {
+  | inr above ↦ let still = (none (λ below. absurd (omega (arith, below, above)))).2 in keeps_reading [] a b (All-nil (λ (x : Entry). IsRead x.op)) (record {
       same = same;
       begins = subst (λ (z : Trail). GoesOnFrom (seen_by a.handle) z) (sym still) (goes_self (seen_by a.handle));
       legal = subst (λ (z : Trail). IsLinearizable (first_map_of a.handle) (seen_by a.handle) → IsLinearizable (first_map_of a.handle) z) (sym still) (λ l. l);

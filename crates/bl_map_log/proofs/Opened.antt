@@ -61,6 +61,10 @@ one_seated map seats rest left seat handles now handle next over is s = record {
   over = subst (AllZip (IsNewNoting map) (s.taken ++ seat ∷ [])) (sym is) (zip_push (IsNewNoting map) s.taken handles seat handle s.over over);
 }
 
+pub none_left : (rest : List Pass) → length rest ≡ 0 → rest ≡ []
+none_left [] e = refl
+none_left (x ∷ rest) e = absurd (omega (arith, e))
+
 append_none : (xs rest : List Pass) → rest ≡ [] → xs ++ rest ≡ xs
 append_none [] rest none = none
 append_none (x ∷ xs) rest none = ap (λ (z : List Pass). x ∷ z) (append_none xs rest none)

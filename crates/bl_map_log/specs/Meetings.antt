@@ -54,8 +54,3 @@ AreMet olds news = ⊥
 -- both are of one map
 abbrev pub AreOfOneMap : NotingHandle → NotingHandle → Type 0
 AreOfOneMap one two = AreOfOne one.handle two.handle
-
--- all are of the map of the first one
-abbrev pub AllOfOneMap : List NotingHandle → Type 0
-AllOfOneMap [] = Unit {0}
-AllOfOneMap (one ∷ others) = All (AreOfOneMap one) others

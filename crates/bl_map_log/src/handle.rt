@@ -32,7 +32,7 @@ impl<'a> NotingHandle<'a> {
 
     /// A handle that has noted nothing.
     pub(crate) fn over(alloc: Global, handle: Handle<'a>) -> NotingHandle<'a>
-        ensures handle { handle_of result ≡ handle }
+        ensures handle { handle_of result ≡ handle.entry }
         ensures cleared { IsCleared result }
     {
         NotingHandle {

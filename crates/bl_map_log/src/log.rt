@@ -1,6 +1,6 @@
 //! The log of a map.
 
-ghost use Rattle.std.specs.Prelude.{◌≡◌, ℕ, List, [], Option, All, IfOk, IfErr, OnOk, OnErr, vec_len};
+ghost use Rattle.std.specs.Prelude.{◌≡◌, ℕ, List, [], ◌∷◌, Option, All, IfOk, IfErr, OnOk, OnErr, vec_len};
 ghost use Rattle.std.specs.List.{AllZip};
 ghost use Rattle.std.specs.Vec.{vec_capacity};
 ghost use Rattle.bl_model.specs.Map.{SameMap};
@@ -101,22 +101,23 @@ impl<D: Device + Drop> MapLog<D> {
         &mut self,
         alloc: Global,
         map: &Map,
-        handles: &mut [NotingHandle<'a>],
+        first: &mut NotingHandle<'a>,
+        others: &mut [NotingHandle<'a>],
     ) -> Result<(), LogFault>
-        requires own { All (IsNotingOf map.now) handles.old }
-        requires log { D.is_modelled (file_of self.old) → (base : _) × HasLog D.seen D.moment D.leaves map.now base handles.old self.old }
+        requires own { IsNotingOf map.now first.old × All (IsNotingOf map.now) others.old }
+        requires log { D.is_modelled (file_of self.old) → (base : _) × HasLog D.seen D.moment D.leaves map.now base (first.old ∷ others.old) self.old }
         ensures modelled { D.is_modelled (file_of self.old) → D.is_modelled (file_of self.new) }
-        ensures of_map { All (IsNotingOf map.now) handles.new }
-        ensures idle { AllZip MakesNoCall handles.old handles.new }
-        ensures commits { D.is_modelled (file_of self.old) → (base : _) → HasLog D.seen D.moment D.leaves map.now base handles.old self.old
-            → Commits D.seen D.moment D.leaves map.now base result handles.old handles.new self.old self.new }
+        ensures of_map { IsNotingOf map.now first.new × All (IsNotingOf map.now) others.new }
+        ensures idle { AllZip MakesNoCall (first.old ∷ others.old) (first.new ∷ others.new) }
+        ensures commits { D.is_modelled (file_of self.old) → (base : _) → HasLog D.seen D.moment D.leaves map.now base (first.old ∷ others.old) self.old
+            → Commits D.seen D.moment D.leaves map.now base result (first.old ∷ others.old) (first.new ∷ others.new) self.old self.new }
     {
         histories_lead();
-        meet_all(handles);
-        let changes = collected(alloc, handles)?;
+        meet_all(first, others);
+        let changes = collected(alloc, first, others)?;
         let (came, went) = (changes.came.as_slice(), changes.went.as_slice());
         self.journal.commit(alloc, came, went)?;
-        clear_all(handles);
+        clear_all(first, others);
         Ok(())
     }
 

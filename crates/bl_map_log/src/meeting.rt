@@ -1,10 +1,9 @@
 //! The handles of all seats meet: what one of them has seen then has all that each has done.
 
-ghost use Rattle.std.specs.Prelude.{All, length};
-ghost use Rattle.std.specs.List.{AllZip};
+ghost use Rattle.std.specs.Prelude.{◌≡◌, All};
 ghost use Rattle.bl_map.specs.Handles.{seen_by};
 ghost use Rattle.bl_map_log.specs.Notes.{handle_of};
-ghost use Rattle.bl_map_log.specs.Meetings.{HasSeenMore, MeetsEach, AreOfOneMap, AllOfOneMap, HaveMet, AreMet};
+ghost use Rattle.bl_map_log.specs.Meetings.{HasSeenMore, MeetsEach, AreOfOneMap, HaveMet};
 
 use crate::handle::NotingHandle;
 
@@ -30,20 +29,10 @@ fn meet_each<'a>(one: &mut NotingHandle<'a>, others: &mut [NotingHandle<'a>])
 
 /// All handles meet. What the first one has seen once it has met each of the others has all that they have done; and, as it meets them once
 /// more, no more of theirs than that.
-fn meet_twice<'a>(one: &mut NotingHandle<'a>, others: &mut [NotingHandle<'a>])
+pub(crate) fn meet_all<'a>(one: &mut NotingHandle<'a>, others: &mut [NotingHandle<'a>])
     requires { All (AreOfOneMap one.old) others.old }
     ensures { HaveMet one.old one.new others.old others.new }
 {
     meet_each(one, others);
     meet_each(one, others);
-}
-
-/// All handles meet, if there are any.
-pub(crate) fn meet_all<'a>(handles: &mut [NotingHandle<'a>])
-    requires { AllOfOneMap handles.old }
-    ensures { AreMet handles.old handles.new }
-{
-    if let Some((one, others)) = handles.split_first_mut() {
-        meet_twice(one, others);
-    }
 }

@@ -1,6 +1,6 @@
 use Rattle.std.proofs.Common.{arith, refl}
 use Rattle.std.specs.Prelude.{slice_index_or}
-use Rattle.bl_map_log.proofs.Met.{meets_none, meets_one, meets_all, next_of_one}
+use Rattle.bl_map_log.proofs.Rounds.{meets_none, meets_one, meets_all, next_of_one}
 use Rattle.bl_map_log.proofs.meeting.meet_each.Goals as goal
 
 pub loop-number-init : goal.loop-number-init

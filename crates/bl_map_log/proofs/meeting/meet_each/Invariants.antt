@@ -1,4 +1,4 @@
-use Rattle.bl_map_log.proofs.Met.{MeetsUpTo}
+use Rattle.bl_map_log.proofs.Rounds.{MeetsUpTo}
 use Rattle.bl_map_log.proofs.meeting.meet_each.Given as goal
 
 abbrev pub invariant-loop-number : goal.invariant-loop-number

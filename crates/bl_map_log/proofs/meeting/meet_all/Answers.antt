@@ -1,5 +1,5 @@
-use Rattle.bl_map_log.proofs.Met.{all_of_one, met_twice}
-use Rattle.bl_map_log.proofs.meeting.meet_twice.Goals as goal
+use Rattle.bl_map_log.proofs.Rounds.{all_of_one, met_twice}
+use Rattle.bl_map_log.proofs.meeting.meet_all.Goals as goal
 
 pub meet_each-requires-2 : goal.meet_each-requires-2
 meet_each-requires-2 c = all_of_one c.args.one.now c.meet_each.new.one c.args.others.now c.meet_each.new.others c.meet_each.ensures c.requires
