@@ -1,5 +1,5 @@
 -- A commit: all handles have met, what they had noted is put to the log, and they let it go.
-use Rattle.std.proofs.Common.{◌≡◌, ◌⊎◌, inl, inr, ℕ, zero, suc, ◌+◌, List, [], ◌∷◌, ◌++◌, Option, length, get_or, refl, sym, ap, ◌∙◌, subst, append-nil}
+use Rattle.std.proofs.Common.{◌≡◌, ◌⊎◌, inl, ℕ, suc, List, [], ◌∷◌, ◌++◌, Option, length, get_or, refl, sym, ap, ◌∙◌, subst, append-nil}
 use Rattle.std.specs.Prelude.{All, flat_map, Result, Ok, Err, IsErr, OnOk}
 use Rattle.std.specs.List.{AllZip}
 use Rattle.std.proofs.lemmas.List.Elements.{All-nil, All-cons, All-head, All-tail}
@@ -17,13 +17,13 @@ use Rattle.bl_index.specs.Calls.{first_of, passes_of, IsPassOf, trail}
 use Rattle.bl_index.specs.declared.index.Index.{Index}
 use Rattle.bl_map.specs.declared.handle.Handle.{Handle}
 use Rattle.bl_map.specs.declared.map.Map.{Map}
-use Rattle.bl_map.specs.Handles.{IsSameHandle, KeepsHints, HasKeptUp, AreOfOne, first_map_of, index_of, number_of_seat, seen_by}
+use Rattle.bl_map.specs.Handles.{IsSameHandle, KeepsHints, HasKeptUp, first_map_of, index_of, number_of_seat, seen_by}
 use Rattle.bl_map_log.specs.declared.handle.NotingHandle.{NotingHandle}
 use Rattle.bl_map_log.specs.declared.log.MapLog.{MapLog}
 use Rattle.bl_map_log.specs.Notes.{HasNoted, IsNotingOf, IsCleared, IsClearedOf, KeepsNotes, came_noted, went_noted, done_in}
-use Rattle.bl_map_log.specs.Meetings.{HasSeenMore, MakesNoCall, HasMet, HaveMet, AreMet, AreOfOneMap}
+use Rattle.bl_map_log.specs.Meetings.{HasSeenMore, MakesNoCall, HasMet, AreMet, AreOfOneMap}
 use Rattle.bl_map_log.specs.Commits.{AreFrom, AreAllOf, IsWhole, HasLog, HasAllOf, Commits, CallsKeepLog, file_of, map_told}
-use Rattle.bl_map_log.proofs.Seen.{goes_on, goes_self, between, seen_then, noted_still, done_by}
+use Rattle.bl_map_log.proofs.Seen.{goes_self, seen_then, noted_still, done_by}
 use Rattle.bl_map_log.proofs.Each.{zip_weaker, zip_goes, zip_front, zip_then}
 use Rattle.bl_map_log.proofs.Led.{HistoriesLead, Gives, leads}
 

@@ -1,5 +1,5 @@
 -- The rows that a history gives, counted by the passes whose entries give them.
-use Rattle.std.proofs.Common.{◌≡◌, ◌≢◌, inl, inr, ℕ, zero, suc, ◌+◌, ◌<◌, ◌≤◌, List, [], ◌∷◌, ◌++◌, Option, Some, None, refl, sym, ap, ◌∙◌, subst, arith}
+use Rattle.std.proofs.Common.{◌≡◌, ◌≢◌, inl, inr, ℕ, zero, suc, ◌+◌, ◌<◌, ◌≤◌, List, [], ◌∷◌, ◌++◌, Option, Some, None, refl, sym, ap, ◌∙◌, arith}
 use Rattle.std.specs.Prelude.{All, flat_map}
 use Rattle.std.proofs.lemmas.Bool.{cases_eq}
 use Rattle.std.proofs.lemmas.Bool.Decides.{nat_tests}
@@ -10,7 +10,7 @@ use Rattle.bl_model.specs.History.{entries_of_pass}
 use Rattle.bl_page.specs.Machine.{Name}
 use Rattle.bl_journal.specs.Rows.{times}
 use Rattle.bl_journal.proofs.Leaving.{times-append}
-use Rattle.bl_claims.specs.Trails.{Mark, Said, Trail, entries_at, history_of}
+use Rattle.bl_claims.specs.Trails.{Said, Trail, entries_at, history_of}
 use Rattle.bl_claims.specs.Seeing.{AreWithin}
 
 -- ---- rows of one after another

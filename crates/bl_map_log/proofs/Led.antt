@@ -1,5 +1,5 @@
 -- What the handles of all seats have noted leads from the one map to the other.
-use Rattle.std.proofs.Common.{◌≡◌, ℕ, zero, suc, ◌+◌, List, [], ◌∷◌, ◌++◌, length, refl, sym, ap, ◌∙◌, subst, arith}
+use Rattle.std.proofs.Common.{◌≡◌, ℕ, suc, ◌+◌, List, [], ◌∷◌, ◌++◌, length, refl, sym, ap, ◌∙◌, subst, arith}
 use Rattle.std.specs.Prelude.{All, flat_map}
 use Rattle.std.proofs.lemmas.List.Elements.{All-head, All-tail}
 use Rattle.bl_model.specs.declared.operation.Entry.{Entry}
@@ -31,7 +31,7 @@ module _ (key value : ℕ) (rows_of : Entry → List (ℕ × ℕ)) (noted : Noti
       → often key value rows_of (entries_of_pass from (history_of now)) ≡ often key value rows_of (entries_of_pass from (history_of base)) + times key value (noted h)
   one_gives from h is gives =
       let here : often key value rows_of (done_in now h) ≡ often key value rows_of (done_in base h) + times key value (noted h) =
-          ap (λ (z : List (ℕ × ℕ)). times key value z) gives ∙ times-append key value (flat_map rows_of (done_in base h)) (noted h) in
+      ap (λ (z : List (ℕ × ℕ)). times key value z) gives ∙ times-append key value (flat_map rows_of (done_in base h)) (noted h) in
       subst (λ (n : ℕ). often key value rows_of (entries_of_pass n (history_of now)) ≡ often key value rows_of (entries_of_pass n (history_of base)) + times key value (noted h)) is here
 
   each_gives : (from : ℕ) (handles : List NotingHandle) → AreFrom map from handles → All (Gives (flat_map rows_of) noted base now) handles

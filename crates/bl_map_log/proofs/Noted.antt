@@ -20,14 +20,14 @@ use Rattle.bl_claims.specs.Trails.{Trail}
 use Rattle.bl_claims.specs.Seeing.{IsLinearizable, own, GoesOnFrom}
 use Rattle.bl_index_read.specs.LeafRows.{IsBelow}
 use Rattle.bl_index_range.specs.Ranges.{IsPartWithin}
-use Rattle.bl_index.specs.Scans.{AreParts, FindsNoRoom}
+use Rattle.bl_index.specs.Scans.{AreParts}
 use Rattle.bl_map.specs.declared.handle.Handle.{Handle}
 use Rattle.bl_map_calls.specs.declared.ranging.RangeRefusal.{RangeRefusal}
 use Rattle.bl_map.specs.Handles.{IsSameHandle, HasCalled, HasKeptUp, first_map_of, number_of_seat, seen_by}
 use Rattle.bl_map_calls.specs.Ranges.{Ranged}
 use Rattle.bl_map_calls.specs.Scans.{HasScanned, Scanned}
 use Rattle.bl_map_log.specs.declared.handle.NotingHandle.{NotingHandle}
-use Rattle.bl_map_log.specs.Notes.{HasNoted, KeepsNotes, NotesReply, NotesNone, came_noted, went_noted, done_in}
+use Rattle.bl_map_log.specs.Notes.{KeepsNotes, NotesReply, NotesNone, came_noted, went_noted}
 use Rattle.bl_map_log.proofs.Seen.{goes_on, goes_self, same_first}
 
 -- ---- entries, and what they change
@@ -51,9 +51,9 @@ keeps es a b e came went = record {
   still = λ base h.
       let n = number_of_seat a.handle in
       let came_now : all_came (own n (seen_by b.handle)) ≡ all_came (own n base) ++ came_noted b =
-          more_rows all_came n base (seen_by a.handle) (seen_by b.handle) es (came_noted a) (came_noted b) (flat_map-append (λ (x : Entry). came_of x.op x.reply)) e.mine came h.came in
+      more_rows all_came n base (seen_by a.handle) (seen_by b.handle) es (came_noted a) (came_noted b) (flat_map-append (λ (x : Entry). came_of x.op x.reply)) e.mine came h.came in
       let went_now : all_went (own n (seen_by b.handle)) ≡ all_went (own n base) ++ went_noted b =
-          more_rows all_went n base (seen_by a.handle) (seen_by b.handle) es (went_noted a) (went_noted b) (flat_map-append (λ (x : Entry). went_of x.op x.reply)) e.mine went h.went in record {
+      more_rows all_went n base (seen_by a.handle) (seen_by b.handle) es (went_noted a) (went_noted b) (flat_map-append (λ (x : Entry). went_of x.op x.reply)) e.mine went h.went in record {
         begins = goes_on base (seen_by a.handle) (seen_by b.handle) h.begins e.begins;
         legal = subst (λ (z : List (Option Page)). IsLinearizable z (seen_by b.handle)) (sym (same_first a.handle b.handle e.same)) (e.legal h.legal);
         came = subst (λ (z : ℕ). all_came (own z (seen_by b.handle)) ≡ all_came (own z base) ++ came_noted b) (sym e.same.1.2) came_now;
@@ -173,9 +173,9 @@ keeps_range pages from None rounds result before after P Q a b same ranged none 
 keeps_range pages from (Some to) rounds result before after P Q a b same ranged none n = elim (cases_lt from to) [
   | inl below ↦ keeps_ranged pages from (Some to) rounds result before after a b same (ranged below) n
   | inr above ↦ let still = (none (λ below. absurd (omega (arith, below, above)))).2 in keeps_reading [] a b (All-nil (λ (x : Entry). IsRead x.op)) (record {
-      same = same;
-      begins = subst (λ (z : Trail). GoesOnFrom (seen_by a.handle) z) (sym still) (goes_self (seen_by a.handle));
-      legal = subst (λ (z : Trail). IsLinearizable (first_map_of a.handle) (seen_by a.handle) → IsLinearizable (first_map_of a.handle) z) (sym still) (λ l. l);
-      mine = ap (own (number_of_seat a.handle)) still ∙ sym (append-nil (own (number_of_seat a.handle) (seen_by a.handle)));
-    }) n
+    same = same;
+    begins = subst (λ (z : Trail). GoesOnFrom (seen_by a.handle) z) (sym still) (goes_self (seen_by a.handle));
+    legal = subst (λ (z : Trail). IsLinearizable (first_map_of a.handle) (seen_by a.handle) → IsLinearizable (first_map_of a.handle) z) (sym still) (λ l. l);
+    mine = ap (own (number_of_seat a.handle)) still ∙ sym (append-nil (own (number_of_seat a.handle) (seen_by a.handle)));
+  }) n
 ]

@@ -1,5 +1,5 @@
 -- A map with the rows of a log, and handles for its seats that have noted nothing.
-use Rattle.std.proofs.Common.{◌≡◌, ℕ, zero, suc, ◌+◌, ◌<◌, List, [], ◌∷◌, ◌++◌, Option, length, refl, sym, ap, ◌∙◌, subst, append_assoc, arith}
+use Rattle.std.proofs.Common.{◌≡◌, ℕ, suc, ◌+◌, List, [], ◌∷◌, ◌++◌, Option, length, refl, sym, ap, ◌∙◌, subst, append_assoc, arith}
 use Rattle.std.specs.Prelude.{All}
 use Rattle.std.specs.List.{AllZip}
 use Rattle.std.proofs.lemmas.List.Elements.{All-nil, All-cons}
@@ -8,14 +8,12 @@ use lib.ListN.{get_elem?}
 use Rattle.bl_model.specs.Map.{SameMap, Map as PlainMap}
 use Rattle.bl_model.specs.Rows.{map_of}
 use Rattle.bl_page.specs.declared.page.Page.{Page}
-use Rattle.bl_check.specs.Rows.{AreRowsOf}
 use Rattle.bl_check.specs.Spans.{leftmost}
 use Rattle.bl_check_laws.proofs.RowsFound.{rows_same}
 use Rattle.bl_changes.specs.Changes.{all_came, all_went}
 use Rattle.bl_claims.specs.Trails.{Trail}
 use Rattle.bl_claims.specs.Seeing.{IsLinearizable, first_map, own}
-use Rattle.bl_index.specs.Calls.{first_of, passes_of, IsPassOf, number_of, trail}
-use Rattle.bl_index.specs.Opened.{IsBegun}
+use Rattle.bl_index.specs.Calls.{first_of, IsPassOf, number_of, trail}
 use Rattle.bl_index.specs.declared.index.Index.{Index}
 use Rattle.bl_index.specs.declared.index.Pass.{Pass}
 use Rattle.bl_journal.specs.Logs.{KeepsMap}
@@ -24,7 +22,7 @@ use Rattle.bl_map.specs.Maps.{IsLoaded}
 use Rattle.bl_map.specs.Handles.{number_of_seat, seen_by}
 use Rattle.bl_map_log.specs.declared.handle.NotingHandle.{NotingHandle}
 use Rattle.bl_map_log.specs.declared.log.MapLog.{MapLog}
-use Rattle.bl_map_log.specs.Notes.{HasNoted, IsCleared, IsNotingOf, IsNewNoting, came_noted, went_noted, done_in}
+use Rattle.bl_map_log.specs.Notes.{HasNoted, IsNotingOf, IsNewNoting}
 use Rattle.bl_map_log.specs.Commits.{AreFrom, AreNewSeats, HasLog}
 
 -- ---- the map

@@ -1,10 +1,8 @@
 -- The first handle meets each of the others, twice.
-use Rattle.std.proofs.Common.{◌≡◌, ℕ, ◌+◌, ◌<◌, ◌≤◌, List, [], ◌∷◌, length, get_or, set, refl, sym, ap, ◌∙◌, subst, arith}
+use Rattle.std.proofs.Common.{◌≡◌, ℕ, ◌+◌, ◌<◌, ◌≤◌, List, length, get_or, set, sym, ◌∙◌, subst, arith}
 use Rattle.std.specs.Prelude.{All}
-use Rattle.std.specs.List.{AllZip}
-use Rattle.bl_claims.specs.Trails.{Trail}
 use Rattle.bl_claims.specs.Seeing.{GoesOnFrom}
-use Rattle.bl_map.specs.Handles.{AreOfOne, seen_by}
+use Rattle.bl_map.specs.Handles.{seen_by}
 use Rattle.bl_map_log.specs.declared.handle.NotingHandle.{NotingHandle}
 use Rattle.bl_map_log.specs.Meetings.{HasSeenMore, HasMetBetween, MeetsEach, HasMet, HaveMet, AreOfOneMap}
 use Rattle.bl_map_log.proofs.Seen.{goes_on, goes_self, seen_self, seen_then, of_one_still}

@@ -11,11 +11,11 @@ use Rattle.bl_claims.specs.Seeing.{IsLinearizable, own, GoesOnFrom}
 use Rattle.bl_index.specs.Calls.{first_of, IsPassOf}
 use Rattle.bl_index.specs.declared.index.Index.{Index}
 use Rattle.bl_map.specs.declared.handle.Handle.{Handle}
-use Rattle.bl_map.specs.Handles.{IsSameHandle, KeepsHints, AreOfOne, HaveMet as HandlesHaveMet, first_map_of, index_of, number_of_seat, seen_by}
+use Rattle.bl_map.specs.Handles.{IsSameHandle, KeepsHints, AreOfOne, HaveMet as HandlesHaveMet, first_map_of, number_of_seat, seen_by}
 use Rattle.bl_map.proofs.AllMet.{same_again}
 use Rattle.bl_map_calls.proofs.Scanning.{history_append}
 use Rattle.bl_map_log.specs.declared.handle.NotingHandle.{NotingHandle}
-use Rattle.bl_map_log.specs.Notes.{HasNoted, IsClearedOf, NotesNone, came_noted, went_noted, done_in}
+use Rattle.bl_map_log.specs.Notes.{HasNoted, NotesNone, came_noted, went_noted, done_in}
 use Rattle.bl_map_log.specs.Meetings.{HasSeenMore, HasMet}
 
 -- ---- trails
@@ -41,7 +41,7 @@ pub between : (pass : ℕ) (old mid new : Trail) → GoesOnFrom old mid → Goes
 between pass old mid new a b same =
     let front : own pass mid ≡ own pass old ++ own pass a.0 = ap (own pass) a.1 ∙ own_append pass old a.0 in
     let whole : own pass new ≡ own pass old ++ (own pass a.0 ++ own pass b.0) = ap (own pass) b.1 ∙ (own_append pass mid b.0
-        ∙ (ap (λ (z : List Entry). z ++ own pass b.0) front ∙ append_assoc (own pass old) (own pass a.0) (own pass b.0))) in
+    ∙ (ap (λ (z : List Entry). z ++ own pass b.0) front ∙ append_assoc (own pass old) (own pass a.0) (own pass b.0))) in
     let rest : own pass a.0 ++ own pass b.0 ≡ [] = append_cancel_left (own pass old) (own pass a.0 ++ own pass b.0) [] (sym whole ∙ (same ∙ sym (append-nil (own pass old)))) in
     front ∙ (ap (λ (z : List Entry). own pass old ++ z) (none_first (own pass a.0) (own pass b.0) rest) ∙ append-nil (own pass old))
 
@@ -78,7 +78,7 @@ noted_on : (rows_of : List Entry → List (ℕ × ℕ)) (base : Trail) (a b : No
     → rows_of (done_in (seen_by a.handle) a) ≡ rows_of (done_in base a) ++ was → rows_of (done_in (seen_by b.handle) b) ≡ rows_of (done_in base b) ++ is
 noted_on rows_of base a b was is s same h =
     let on : rows_of (own (number_of_seat a.handle) (seen_by b.handle)) ≡ rows_of (own (number_of_seat a.handle) base) ++ is =
-        ap rows_of s.none ∙ (h ∙ ap (λ (z : List (ℕ × ℕ)). rows_of (done_in base a) ++ z) (sym same)) in
+    ap rows_of s.none ∙ (h ∙ ap (λ (z : List (ℕ × ℕ)). rows_of (done_in base a) ++ z) (sym same)) in
     subst (λ (z : ℕ). rows_of (own z (seen_by b.handle)) ≡ rows_of (own z base) ++ is) (sym s.same.1.2) on
 
 -- what was noted is noted still

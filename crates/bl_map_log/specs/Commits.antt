@@ -1,5 +1,5 @@
 -- What a log has of what the handles of a map have done.
-use Rattle.std.specs.Prelude.{◌≡◌, ◌⊎◌, ℕ, zero, suc, List, [], ◌∷◌, Option, Result, All, OnOk, length}
+use Rattle.std.specs.Prelude.{◌≡◌, ◌⊎◌, ℕ, suc, List, [], ◌∷◌, Option, Result, All, OnOk, length}
 use Rattle.std.specs.List.{AllZip}
 use Rattle.bl_model.specs.Map.{Map as PlainMap}
 use Rattle.bl_claims.specs.Trails.{Trail}

@@ -9,9 +9,9 @@ ghost use Rattle.bl_model.specs.Replies.{reply_of};
 ghost use Rattle.bl_model.specs.Writes.{write_op};
 ghost use Rattle.bl_proc.specs.declared.parts.Direction.TheVariants as directions;
 
+use crate::notes::note;
 use bl_changes::Changes;
 use bl_map::{Backlog, Handle, KeyReply, KeyWrite, RangeRefusal, Seat};
-use crate::notes::note;
 use std::alloc::{AllocError, Global};
 use std::sync::Wait;
 
