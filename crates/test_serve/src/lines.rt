@@ -188,6 +188,7 @@ fn sections_of_two_lines(rt: HostRuntime) {
             workers,
             compressors: 1,
             sections: Sectioning::AtMost(2),
+            most: 0,
         };
         let (ended, text) = end(&rt, rt.alloc(), plan, input, Vec::new(rt.alloc()));
         assert_eq!(rt; ended, Ok(totals));
