@@ -41,10 +41,7 @@ fn lines_on_no_room(rt: HostRuntime) -> Result<(), Fail> {
             "blink: 2 requests found no room; the index grows to 5000 pages, where memory for them is found",
         ),
     ] {
-        assert!(rt;
-            says(rt.alloc(), norooms, pages, most, wanted)?,
-            "{wanted}"
-        );
+        assert!(rt; says(rt.alloc(), norooms, pages, most, wanted)?, "{wanted}");
     }
     Ok(())
 }

@@ -148,11 +148,7 @@ const LINES: [Line; 9] = [
         ((65536, 65536), 32, 16, None),
         None,
     ),
-    (
-        "blink serve --most 5000",
-        ((1024, 5000), 4, 1, None),
-        None,
-    ),
+    ("blink serve --most 5000", ((1024, 5000), 4, 1, None), None),
     (
         "blink serve --pages 16 --most 64",
         ((16, 64), 4, 1, None),

@@ -6,8 +6,8 @@ ghost use Rattle.bl_ffi_seats.specs.Seats.{AreOfOne};
 ghost use Rattle.bl_index_read.specs.LeafRows.{IsBelow};
 
 use bl_ffi_seats::{
-    CloseFault, Direction, ImageFault, KeyReply, KeyWrite, Next, OpenFault, OutOfTurns, Reply, Seat,
-    close, open, open_image, open_larger,
+    CloseFault, Direction, ImageFault, KeyReply, KeyWrite, Next, OpenFault, OutOfTurns, Reply,
+    Seat, close, open, open_image, open_larger,
 };
 use bl_image::image_length;
 use std::alloc::Global;

@@ -53,8 +53,7 @@ fn grown<R: Threads + Wait + Sync>(
     let mut writer = Watched::new(Vec::new(alloc));
     let origin = Origin::Empty(4);
     let plan = plan_to(sections, most);
-    let Ok((summary, Ok(quiet))) =
-        dump_by_plan(rt, alloc, origin, plan, &mut reader, &mut writer)
+    let Ok((summary, Ok(quiet))) = dump_by_plan(rt, alloc, origin, plan, &mut reader, &mut writer)
     else {
         return None;
     };
@@ -71,14 +70,17 @@ fn grown<R: Threads + Wait + Sync>(
 fn rows_find_room_that_four_pages_lack(rt: HostRuntime) -> Result<(), Fail> {
     let input = inserts_before(rt.alloc(), 300, b"find 300\nfind 23\nfind 301\n")?;
     for sections in [Sectioning::BySync, Sectioning::AtMost(7)] {
-        let Some((text, norooms, (pages, rows))) =
-            grown(&rt, rt.alloc(), input.as_slice(), sections, 1_024)
-        else {
+        let Some((text, norooms, (pages, rows))) = grown(
+            &rt,
+            rt.alloc(),
+            input.as_slice(),
+            sections,
+            1_024,
+        ) else {
             return Ok(());
         };
         assert!(rt;
-            text.as_slice()
-                .ends_with(b"300 inserted\n301 found 3000\n302 found 230\n303 absent\n")
+            text.as_slice().ends_with(b"300 inserted\n301 found 3000\n302 found 230\n303 absent\n")
         );
         assert_eq!(rt; (norooms, rows), (0, 300));
         assert!(rt; pages > 44 && pages <= 1_024, "{pages} pages");
@@ -132,7 +134,10 @@ fn the_text_of_an_open_section_outlives_a_growth(rt: HostRuntime) -> Result<(), 
     assert!(rt; served.is_some());
     if let Some((text, norooms, (pages, rows))) = served {
         assert!(rt; text.as_slice().starts_with(begins.as_slice()));
-        assert!(rt; text.as_slice().ends_with(b"4136 inserted\n4137 malformed\n"));
+        assert!(rt;
+            text.as_slice()
+                .ends_with(b"4136 inserted\n4137 malformed\n")
+        );
         assert_eq!(rt; (norooms, rows), (0, 40));
         assert!(rt; pages > 4 && pages <= 64);
     }

@@ -78,12 +78,7 @@ fn count_right<R: Wait>(rt: &R, handle: &mut Handle<'_>, calls: &[(Call, Answer)
 }
 
 /// The same in a new map of so many pages; nothing, where none is opened.
-fn right_of<R: Wait>(
-    rt: &R,
-    alloc: Global,
-    pages: u32,
-    calls: &[(Call, Answer)],
-) -> Option<u64> {
+fn right_of<R: Wait>(rt: &R, alloc: Global, pages: u32, calls: &[(Call, Answer)]) -> Option<u64> {
     let (map, seat) = opened(alloc, pages)?;
     let mut handle = map.handle(seat);
     Some(count_right(rt, &mut handle, calls))

@@ -67,13 +67,29 @@ const TRIALS: [(&str, u32, Trial); 19] = [
     ("many rows come and go", 1_024, Trial::ManyRows),
     ("a callback is told each row once", 1_024, Trial::Callback),
     ("rows are listed downwards", 1_024, Trial::Downwards),
-    ("a callback is told rows downwards", 1_024, Trial::CallbackDownwards),
+    (
+        "a callback is told rows downwards",
+        1_024,
+        Trial::CallbackDownwards,
+    ),
     ("many keys are found at once", 1_024, Trial::ManyFound),
     ("keys are looked up in an empty map", 4, Trial::NoneFound),
-    ("many rows are inserted and taken away", 64, Trial::ManyInserted),
+    (
+        "many rows are inserted and taken away",
+        64,
+        Trial::ManyInserted,
+    ),
     ("many rows are put", 64, Trial::ManyPut),
-    ("rows are inserted up to the first that finds no room", 4, Trial::InsertedUntilFull),
-    ("rows are put up to the first that finds no room", 4, Trial::PutUntilFull),
+    (
+        "rows are inserted up to the first that finds no room",
+        4,
+        Trial::InsertedUntilFull,
+    ),
+    (
+        "rows are put up to the first that finds no room",
+        4,
+        Trial::PutUntilFull,
+    ),
     ("rows are listed seven at a time", 64, Trial::Pages),
     ("nothing is left behind the last row", 64, Trial::LastPages),
     ("the greatest key is listed last", 64, Trial::GreatestKey),
@@ -88,6 +104,9 @@ const TRIALS: [(&str, u32, Trial); 19] = [
 #[test]
 fn a_new_map_comes_through_each_trial(rt: HostRuntime) {
     for (name, pages, trial) in TRIALS {
-        assert!(rt; holds_in(&rt, rt.alloc(), pages, trial) == Some(true), "{name}");
+        assert!(rt;
+            holds_in(&rt, rt.alloc(), pages, trial) == Some(true),
+            "{name}"
+        );
     }
 }
