@@ -20,10 +20,7 @@ fn opened(alloc: Global, file: File) -> Option<(MapLog<File>, Map, Vec<Seat>)>
 }
 
 // The last handle is for one thread, and the rest for others.
-fn parted<'a>(
-    map: &Map,
-    handles: &mut Vec<NotingHandle<'a>>,
-) -> Option<NotingHandle<'a>>
+fn parted<'a>(map: &Map, handles: &mut Vec<NotingHandle<'a>>) -> Option<NotingHandle<'a>>
     requires { All (IsNotingOf map.now) handles.old.items }
     ensures one { IfSome result (IsNotingOf map.now) }
     ensures others { All (IsNotingOf map.now) handles.new.items }
@@ -74,11 +71,12 @@ fn rows_of(alloc: Global, file: &File) -> Option<Vec<(u64, u64)>> {
 }
 
 // 16 bytes of a head and a record of 4 + 1 + 2 * 2 words: the log is written anew with the two rows that are left. The second record has 4 + 1
-// words, and four rows: (7, 70) and (7, 71) came, (5, 50) and (7, 70) went. What was put behind it is in no record.
+// words, and four rows: (7, 70) and (7, 71) came, (5, 50) and (7, 70) went. What was put behind it is in no record. The file is synced before it
+// is read, by the opening and by the first commit, which replaces it, and behind the second record.
 #[test]
 fn what_was_committed_is_there(rt: HostRuntime) -> Result<(), Fail> {
     let file = worked(&rt, rt.alloc(), empty(rt.alloc())).ok_or("no commit")?;
-    assert!(rt; file.syncs == 3 && file.bytes.len() == 88 + 1_048_576);
+    assert!(rt; file.syncs == 4 && file.bytes.len() == 88 + 1_048_576);
     assert!(rt; file.bytes.get(88..96) == Some(&[13, 0, 0, 0, 0, 0, 0, 0]));
     assert!(rt; file.bytes.get(192..200) == Some(&[0; 8]));
     let rows = rows_of(rt.alloc(), &file).ok_or("no log")?;
