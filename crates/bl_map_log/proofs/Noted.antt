@@ -61,15 +61,6 @@ keeps es a b e came went = record {
       };
 }
 
--- nothing was done
-pub keeps_still : (a b : NotingHandle) → b.handle ≡ a.handle → NotesNone a b → KeepsNotes a b
-keeps_still a b at n = keeps [] a b (record {
-  same = subst (IsSameHandle a.handle) (sym at) (refl, (refl, refl, refl, refl));
-  begins = subst (λ (z : Handle). GoesOnFrom (seen_by a.handle) (seen_by z)) (sym at) (goes_self (seen_by a.handle));
-  legal = subst (λ (z : Handle). IsLinearizable (first_map_of a.handle) (seen_by a.handle) → IsLinearizable (first_map_of a.handle) (seen_by z)) (sym at) (λ l. l);
-  mine = ap (λ (z : Handle). own (number_of_seat a.handle) (seen_by z)) at ∙ sym (append-nil (own (number_of_seat a.handle) (seen_by a.handle)));
-}) (n.came ∙ sym (append-nil (came_noted a))) (n.went ∙ sym (append-nil (went_noted a)))
-
 -- ---- a call
 
 one_called : (op : Op) (reply : Reply) (a b : NotingHandle) → IsSameHandle a.handle b.handle → HasCalled op reply a.handle b.handle → Enters (record { pass = number_of_seat a.handle; op = op; reply = reply } ∷ []) a b

@@ -48,9 +48,6 @@ pub record IsSeatedSo (map : Map) (seats rest : List Pass) (handles : List Notin
   pub all : seats ≡ taken ++ rest
   pub over : AllZip (IsNewNoting map) taken handles
 
-pub none_seated : (map : Map) (seats : List Pass) (handles : List NotingHandle) → handles ≡ [] → IsSeatedSo map seats seats handles
-none_seated map seats handles none = record { taken = []; all = refl; over = subst (AllZip (IsNewNoting map) []) (sym none) tt }
-
 pub one_seated : (map : Map) (seats rest left : List Pass) (seat : Pass) (handles now : List NotingHandle) (handle : NotingHandle) → rest ≡ seat ∷ left → IsNewNoting map seat handle → now ≡ handles ++ handle ∷ []
     → IsSeatedSo map seats rest handles → IsSeatedSo map seats left now
 one_seated map seats rest left seat handles now handle next over is s = record {
