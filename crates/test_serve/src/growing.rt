@@ -1,6 +1,7 @@
 //! A server whose index grows.
 
 ghost use Rattle.std.specs.Prelude.{◌≤◌, ◌^◌};
+ghost use Rattle.bl_serve.specs.Origins.{MayServe};
 
 use crate::served::{inserts, inserts_before};
 use bl_check::{Quiet, Report, check};
@@ -15,7 +16,8 @@ use std::thread::Threads;
 
 /// Two workers and a compressor, with such sections, over an index that may grow to so many pages.
 fn plan_to(sections: Sectioning, most: u32) -> ServePlan
-    ensures { (1 ≤ result.workers) × (result.workers ≤ 32) × (result.compressors ≤ 16) }
+    requires { most ≤ 2 ^ 28 }
+    ensures { MayServe result }
 {
     ServePlan {
         workers: 2,
