@@ -5,7 +5,8 @@
  *
  * closing orders: the seats of a map with rows, and with upkeep that waits, are closed in each order, some by an image, some twice; a map that
  * is to be opened in their places is refused. Under valgrind it shows whether anything is lost. */
-#include "blink.h"
+#define PROGRAM "closing"
+#include "needs.h"
 
 #include <pthread.h>
 #include <stdio.h>
@@ -18,12 +19,6 @@ enum way { FINISH, LEAVE, OTHERS, IDLE };
 static blink_seat seats[SEATS];
 static enum way way;
 static int told_again, orders;
-
-static void need(int32_t answer, int32_t wanted, const char *what) {
-    if (answer == wanted) return;
-    fprintf(stderr, "closing: %s: %s, in place of %s\n", what, blink_text(answer), blink_text(wanted));
-    exit(1);
-}
 
 static int32_t write_key(blink_seat *seat, int round) {
     uint64_t value, key = (uint64_t)(round % 3);

@@ -1,6 +1,7 @@
 /* A map gets more pages, and fewer, while memory is refused: each allocation in turn, alone and with all behind it. It is as it was then, or,
  * where not even its old size could be had again, its image opens. */
-#include "blink.h"
+#define PROGRAM "refused"
+#include "needs.h"
 
 #include <errno.h>
 #include <stdio.h>
@@ -31,16 +32,6 @@ static bool is_refused(void) {
 void *malloc(size_t size) { return is_refused() ? NULL : __libc_malloc(size); }
 void *calloc(size_t count, size_t size) { return is_refused() ? NULL : __libc_calloc(count, size); }
 void *realloc(void *old, size_t size) { return is_refused() ? NULL : __libc_realloc(old, size); }
-
-static void need(int32_t answer, int32_t right, const char *what) {
-    if (answer == right) return;
-    fprintf(stderr, "refused: %s: %s, in place of %s, allocation %ld\n", what, blink_text(answer), blink_text(right), wanted);
-    exit(1);
-}
-
-static void holds(bool fact, const char *what) {
-    need(fact ? BLINK_OK : BLINK_ABSENT, BLINK_OK, what);
-}
 
 /* The map has so many pages and all rows, by each seat, and takes one more. */
 static void has(uint64_t pages) {

@@ -1,5 +1,6 @@
 /* Maps that get more pages and fewer, by all their seats, and what is refused: then the map is as it was. */
-#include "blink.h"
+#define PROGRAM "resizing"
+#include "needs.h"
 
 #include <stdio.h>
 #include <stdlib.h>
@@ -9,16 +10,6 @@ enum { SEATS = 3, PAGES = 64, LARGE = 4096, ROWS = 20000, LEFT = 100, LENGTH = 3
 static blink_seat seats[SEATS];
 static blink_row rows[ROWS + 1];
 static uint8_t bytes[LENGTH];
-
-static void need(int32_t answer, int32_t wanted, const char *what) {
-    if (answer == wanted) return;
-    fprintf(stderr, "resizing: %s: %s, in place of %s\n", what, blink_text(answer), blink_text(wanted));
-    exit(1);
-}
-
-static void holds(bool fact, const char *what) {
-    need(fact ? BLINK_OK : BLINK_ABSENT, BLINK_OK, what);
-}
 
 /* The map has so many pages, and so many rows from a key on, each with three times its key, by each seat. */
 static void has(uint64_t pages, uint64_t from, uint64_t count) {

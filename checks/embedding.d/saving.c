@@ -1,6 +1,7 @@
 /* Saves a map while others change it: saving ROUNDS. Three threads insert and delete odd keys and count a row up, and each image has to open, with
  * rising keys, with each even key, and with a count that is not below the one of the image before. */
-#include "blink.h"
+#define PROGRAM "saving"
+#include "needs.h"
 
 #include <pthread.h>
 #include <stdio.h>
@@ -12,16 +13,6 @@ static blink_seat seats[WRITERS + 1];
 static bool is_over;
 static uint8_t bytes[LENGTH];
 static blink_row rows[MOST];
-
-static void need(int32_t answer, int32_t wanted, const char *what) {
-    if (answer == wanted) return;
-    fprintf(stderr, "saving: %s: %s, in place of %s\n", what, blink_text(answer), blink_text(wanted));
-    exit(1);
-}
-
-static void holds(bool fact, const char *what) {
-    need(fact ? BLINK_OK : BLINK_ABSENT, BLINK_OK, what);
-}
 
 /* Each thread has odd keys of its own; the first one counts at key 0. */
 static void *work(void *place) {
