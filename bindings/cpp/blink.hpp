@@ -151,11 +151,11 @@ struct Seats {
         return code;
     }
 
-    // Gives a map of so many pages twice as many, unless another one has done it by then.
-    // Whether it has more.
+    // Gives a map of so many pages twice as many, unless it has another number by then.
+    // Whether a write that found no room may find it now.
     bool grow(uint32_t from) noexcept {
         const std::lock_guard<std::mutex> hold(lock);
-        if (pages != from) return pages > from && !is_closed;
+        if (pages != from) return !is_closed;
         return grows && from < MOST_PAGES && resize(std::min(2 * from, MOST_PAGES)) == BLINK_OK;
     }
 

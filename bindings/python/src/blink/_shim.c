@@ -134,13 +134,13 @@ static void shim_resize(shim_map *map, uint32_t pages) {
     if (!map->kept) free(bytes);
 }
 
-/* The same while no call is underway: whether it has more pages than so many then. */
+/* The same while no call is underway: whether it has another number of pages then, so that a write may find room. */
 static bool shim_grow(shim_map *map, uint32_t pages) {
     if (pages >= map->most) return false;
     shim_take_all(map);
     shim_resize(map, pages);
     shim_give(map, shim_all(map));
-    return shim_pages(map) > pages;
+    return shim_pages(map) != pages;
 }
 
 /* Gives the map half its pages, in which its rows are laid out anew. Where there is no memory for that it stays as it is. */

@@ -170,11 +170,12 @@ impl Seats {
         code
     }
 
-    /// Gives a map of so many pages twice as many, unless another one has done it by then: whether it has more.
+    /// Gives a map of so many pages twice as many, unless it has another number by then: whether a write that found no room may find it
+    /// now.
     pub(crate) fn grow(&self, from: u32) -> bool {
         let mut held = self.lock();
         if self.pages() != from {
-            return self.pages() > from && !held.is_closed;
+            return !held.is_closed;
         }
         self.grows && from < MOST_PAGES && self.resize(&mut held, (2 * from).min(MOST_PAGES)) == BLINK_OK
     }
