@@ -70,39 +70,44 @@ enum Part {
     Turns(u64),
 }
 
+/// The numbers that so many words are.
+fn numbers_in<const N: usize>(words: &[String]) -> Option<[u64; N]> {
+    if words.len() != N {
+        return None;
+    }
+    let mut numbers = [0; N];
+    for place in 0..N {
+        numbers[place] = words[place].parse::<u64>().ok()?;
+    }
+    Some(numbers)
+}
+
 impl Load {
     fn read(words: &[String]) -> Option<Load> {
-        let [pages, rows, threads, calls, order, group @ ..] = words else {
-            return None;
-        };
-        let group = match group {
-            [] => None,
-            [group] => Some(group.parse::<usize>().ok()?.clamp(1, MOST_KEYS)),
+        let [pages, rows, threads, calls] = numbers_in::<4>(words.get(..4)?)?;
+        let (order, group) = match words.get(4..)? {
+            [order] => (order, None),
+            [order, group] => (order, Some(group.parse::<usize>().ok()?)),
             _ => return None,
         };
         Some(Load {
-            pages: pages.parse::<u32>().ok()?,
-            rows: rows.parse::<u64>().ok()?,
-            threads: threads.parse::<u32>().ok()?,
-            plan: Plan::Timed(calls.parse::<u64>().ok()?),
+            pages: u32::try_from(pages).ok()?,
+            rows,
+            threads: u32::try_from(threads).ok()?,
+            plan: Plan::Timed(calls),
             rising: order.as_str() == "rising",
-            group: group.unwrap_or(GROUP),
+            group: group.unwrap_or(GROUP).clamp(1, MOST_KEYS),
             grouped: group.is_some(),
         })
     }
 
     // The same of calls that are counted.
     fn read_counted(words: &[String]) -> Option<Load> {
-        let [_, rows, threads, finds, turns, scans] = words else {
-            return None;
-        };
-        let finds = finds.parse::<u64>().ok()?;
-        let turns = turns.parse::<u64>().ok()?;
-        let scans = scans.parse::<u64>().ok()?;
+        let [rows, threads, finds, turns, scans] = numbers_in::<5>(words.get(1..)?)?;
         Some(Load {
             pages: PAGES,
-            rows: rows.parse::<u64>().ok()?,
-            threads: threads.parse::<u32>().ok()?,
+            rows,
+            threads: u32::try_from(threads).ok()?,
             plan: Plan::Counted(finds, turns, scans),
             rising: false,
             group: GROUP,
@@ -357,6 +362,19 @@ fn run<R: Threads + Wait + Clock + Sync>(
     (done.load(Ordering::SeqCst), longest.load(Ordering::SeqCst))
 }
 
+/// Does a part as [`run`] does. The microseconds that it took stand last.
+fn time_part<R: Threads + Wait + Clock + Sync>(
+    rt: &R,
+    alloc: Global,
+    handles: &mut [Handle<'_>],
+    load: Load,
+    part: Part,
+) -> anyhow::Result<(u64, u64, u128)> {
+    let start = Instant::now(rt)?;
+    let (done, longest) = run(rt, alloc, handles, load, part);
+    Ok((done, longest, start.elapsed(rt)?.as_micros()))
+}
+
 /// Does each part, and prints what it took. With GROUP no more than the insertions and the searches of many rows at a time.
 fn time_parts<R: Print + Threads + Wait + Clock + Sync>(
     rt: &R,
@@ -377,9 +395,7 @@ fn time_parts<R: Print + Threads + Wait + Clock + Sync>(
         if load.grouped && matches!(part, Part::Scans(_)) {
             break;
         }
-        let start = Instant::now(rt)?;
-        let (done, longest) = run(rt, alloc, handles, load, part);
-        let micros = start.elapsed(rt)?.as_micros();
+        let (done, longest, micros) = time_part(rt, alloc, handles, load, part)?;
         println!(rt; "{name} {calls} {done} {micros} {longest}")?;
     }
     Ok(())
@@ -413,18 +429,18 @@ fn handles_of<'a>(alloc: Global, map: &'a Map, seats: Vec<Seat>) -> Option<Vec<H
     Some(handles)
 }
 
-/// Does a load on a new map.
-fn do_load<R: Print + Threads + Wait + Clock + Sync>(
+/// Does a load on a new map, which was opened in so many microseconds.
+fn load_map<R: Print + Threads + Wait + Clock + Sync>(
     rt: &R,
     alloc: Global,
+    map: &Map,
+    seats: Vec<Seat>,
     load: Load,
-) -> anyhow::Result<()> {
-    let start = Instant::now(rt)?;
-    let Ok((map, seats)) = Map::open(alloc, load.pages, load.threads) else {
-        anyhow::bail!("the map was not opened");
-    };
-    let micros = start.elapsed(rt)?.as_micros();
-    let Some(mut handles) = handles_of(alloc, &map, seats) else {
+    micros: u128,
+) -> anyhow::Result<()>
+    requires { AreSeatsOf map.now seats.items }
+{
+    let Some(mut handles) = handles_of(alloc, map, seats) else {
         anyhow::bail!("out of memory");
     };
     let handles = handles.as_mut_slice();
@@ -437,6 +453,20 @@ fn do_load<R: Print + Threads + Wait + Clock + Sync>(
             time_parts(rt, alloc, handles, load, calls)
         }
     }
+}
+
+/// Opens a map, and does a load on it.
+fn do_load<R: Print + Threads + Wait + Clock + Sync>(
+    rt: &R,
+    alloc: Global,
+    load: Load,
+) -> anyhow::Result<()> {
+    let start = Instant::now(rt)?;
+    let Ok((map, seats)) = Map::open(alloc, load.pages, load.threads) else {
+        anyhow::bail!("the map was not opened");
+    };
+    let micros = start.elapsed(rt)?.as_micros();
+    load_map(rt, alloc, &map, seats, load, micros)
 }
 
 /// Does the load that these words name.
