@@ -119,11 +119,11 @@ abbrev pub keys_from : Direction → ℕ → ℕ
 keys_from Up at = 2 ^ 64 - at
 keys_from Down at = at + 1
 
-some_left : (direction : Direction) (at : ℕ) → at < 2 ^ 64 → 0 < keys_from direction at
+pub some_left : (direction : Direction) (at : ℕ) → at < 2 ^ 64 → 0 < keys_from direction at
 some_left Up at fits = omega (arith, fits)
 some_left Down at fits = omega arith
 
-fewer_left : (direction : Direction) (at n : ℕ) → IsBefore direction (Some n) at → n < 2 ^ 64 → keys_from direction n < keys_from direction at
+pub fewer_left : (direction : Direction) (at n : ℕ) → IsBefore direction (Some n) at → n < 2 ^ 64 → keys_from direction n < keys_from direction at
 fewer_left Up at n before fits = omega (arith, before, fits)
 fewer_left Down at n before fits = omega (arith, before)
 
