@@ -33,7 +33,7 @@ use Rattle.bl_index_range.proofs.PartsMade.{calls_push}
 use Rattle.bl_index.proofs.Scanned.{IsBetween, parts_push, right_more, between_more, order_more}
 
 -- a scan that is about to begin
-pub scans_none : (first : List (Option Page)) (pages pass turns : ℕ) (direction : Direction) (from : ℕ) (to : Option ℕ) (old : Trail) → Scans first pages pass turns direction from to (Some from) [] old old
+unfoldable pub scans_none : (first : List (Option Page)) (pages pass turns : ℕ) (direction : Direction) (from : ℕ) (to : Option ℕ) (old : Trail) → Scans first pages pass turns direction from to (Some from) [] old old
 scans_none first pages pass turns direction from to old = record {
   parts = [];
   are_parts = refl;
@@ -66,7 +66,7 @@ module _ (first : List (Option Page)) (pages pass turns : ℕ) (direction : Dire
   ends_behind = (part_tells direction _ at reply stands_there.may).further
 
   -- the scan has gone on by the part
-  pub scans_more : (from : ℕ) (to : Option ℕ) (listed : List (ℕ × ℕ)) (old : Trail) → Scans first pages pass turns direction from to (Some at) listed old mid → IsFrom direction from at → IsBefore direction to at → Scans first pages pass turns direction from to (ended_at reply) (listed ++ rows_before direction to reply) old new
+  unfoldable pub scans_more : (from : ℕ) (to : Option ℕ) (listed : List (ℕ × ℕ)) (old : Trail) → Scans first pages pass turns direction from to (Some at) listed old mid → IsFrom direction from at → IsBefore direction to at → Scans first pages pass turns direction from to (ended_at reply) (listed ++ rows_before direction to reply) old new
   scans_more from to listed old s on_way before =
       let is_part : (m : Map) → MayAnswer m (op_toward direction at) reply → _ = λ m may. part_tells direction m at reply may in
       let on : history_of mid ≡ history_of old ++ history_of s.begins.0 = ap history_of s.begins.1 ∙ history_append old s.begins.0 in

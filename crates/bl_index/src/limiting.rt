@@ -123,9 +123,9 @@ fn give_some(
     while let Behind::Part(at, _) = behind {
         let left = most - (rows.len() - before);
         match give_some_of(tree, hand, at, way, wanted, left, rows) {
-            Ok((on, then, going)) => {
+            Ok((on, stop, going)) => {
                 behind = on;
-                next = then;
+                next = stop;
                 way = going;
             }
             Err(fault) => return Err(fault),
