@@ -66,7 +66,7 @@ module _ (first : List (Option Page)) (pages pass turns : ℕ) (direction : Dire
   ends_behind = (part_tells direction _ at reply stands_there.may).further
 
   -- the scan has gone on by the part
-  unfoldable pub scans_more : (from : ℕ) (to : Option ℕ) (listed : List (ℕ × ℕ)) (old : Trail) → Scans first pages pass turns direction from to (Some at) listed old mid → IsFrom direction from at → IsBefore direction to at → Scans first pages pass turns direction from to (ended_at reply) (listed ++ rows_before direction to reply) old new
+  pub scans_more : (from : ℕ) (to : Option ℕ) (listed : List (ℕ × ℕ)) (old : Trail) → Scans first pages pass turns direction from to (Some at) listed old mid → IsFrom direction from at → IsBefore direction to at → Scans first pages pass turns direction from to (ended_at reply) (listed ++ rows_before direction to reply) old new
   scans_more from to listed old s on_way before =
       let is_part : (m : Map) → MayAnswer m (op_toward direction at) reply → _ = λ m may. part_tells direction m at reply may in
       let on : history_of mid ≡ history_of old ++ history_of s.begins.0 = ap history_of s.begins.1 ∙ history_append old s.begins.0 in
@@ -82,6 +82,10 @@ module _ (first : List (Option Page)) (pages pass turns : ℕ) (direction : Dire
         within = between_more first pass direction from at to (history_of old) (history_of s.begins.0) (history_of mid) (history_of new) entry listed is_part on stands_there refl on_way s.within;
         right = right_more first pass direction from at to (history_of old) (history_of s.begins.0) (history_of mid) (history_of new) entry listed is_part on stands_there refl on_way s.within s.right;
       }
+
+  pub parts_more : (from : ℕ) (to : Option ℕ) (listed : List (ℕ × ℕ)) (old : Trail) (s : Scans first pages pass turns direction from to (Some at) listed old mid) (on_way : IsFrom direction from at) (before : IsBefore direction to at) → (scans_more from to listed old s on_way before).parts ≡ s.parts ++ entry ∷ []
+  unfolding scans_more
+  parts_more from to listed old s on_way before = refl
 
 module _ {S : Type 0} (takes : S → List (ℕ × ℕ) → S → Type 0) (first : List (Option Page)) (pages pass it turns : ℕ) (direction : Direction) (from at : ℕ) (to : Option ℕ) (behind : Behind) (listed : List (ℕ × ℕ)) (before after : S) (old mid new : Trail) (same : it ≡ pass) (s : Scans first pages pass turns direction from to (Some at) listed old mid) (on_way : IsFrom direction from at) (before_to : IsBefore direction to at) where
   abbrev Step : Option ℕ → Type 0

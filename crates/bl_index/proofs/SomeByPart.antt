@@ -25,7 +25,7 @@ use Rattle.bl_index.specs.declared.scanning.ScanFault.{ScanFault}
 use Rattle.bl_index.specs.Scans.{Scans, GivesPart, LeavesPart, StopsAt, left_from}
 use Rattle.bl_index.specs.Limits.{IsNext, AreWanted, ScansSome}
 use Rattle.bl_index.specs.Within.{stand_of, GoesOnSome, GivesSome, LeavesSome}
-use Rattle.bl_index.proofs.PartByPart.{scans_none, scans_more, ends_behind, keys_from, left_behind, some_left, fewer_left}
+use Rattle.bl_index.proofs.PartByPart.{scans_none, scans_more, parts_more, ends_behind, keys_from, left_behind, some_left, fewer_left}
 
 -- ---- how it goes on behind a part
 
@@ -104,10 +104,10 @@ module _ (first : List (Option Page)) (pages pass it turns : ℕ) (direction : D
     IsOn upto = (t : Scans first pages pass turns direction from to upto (s.rows ++ more) old new) × AreWanted direction to most t.parts
 
     on : IsOn (ended_at reply)
-    unfolding scans_more
     on = (
       scans_more first pages pass turns direction at reply mid new finds from to s.rows old s.scans s.on_way s.before_to,
-      wanted_more direction to most s.scans.parts (record { pass = pass; op = op_toward direction at; reply = reply }) s.wanted (subst (λ (z : List (ℕ × ℕ)). length z < most) s.scans.listed s.few),
+      subst (AreWanted direction to most) (sym (parts_more first pages pass turns direction at reply mid new finds from to s.rows old s.scans s.on_way s.before_to))
+          (wanted_more direction to most s.scans.parts (record { pass = pass; op = op_toward direction at; reply = reply }) s.wanted (subst (λ (z : List (ℕ × ℕ)). length z < most) s.scans.listed s.few)),
     )
 
     long : length (s.rows ++ more) ≡ length s.rows + length more

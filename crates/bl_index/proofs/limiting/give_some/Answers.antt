@@ -25,7 +25,9 @@ loop-behind-preserved c =
     let s = rw c.in-Part.is at inv.so_far in
     let long = length-append c.args.rows.now.items s.rows in
     let all = ap length s.grown in
-    let is_left : c.args.most - (length c.loop-behind.rows.items - length c.args.rows.now.items) ≡ c.args.most - length s.rows = omega (arith, long, all) in
+    let now : c.len.result ≡ length c.loop-behind.rows.items = c.len.ensures ∙ c.loop-behind.rows.ok.0 in
+    let was : c.len-before.result ≡ length c.args.rows.now.items = c.len-before.ensures ∙ c.args.rows.now.ok.0 in
+    let is_left : c.args.most - (c.len.result - c.len-before.result) ≡ c.args.most - length s.rows = omega (arith, long, all, now, was) in
     let went = rw c.in-Ok.is at (c.give_some_of.ensures.gives inv.mid (set_off_again _ c.args.hand.now c.loop-behind.hand inv.same.0 _ _ _ _ (rw c.in-Part.is at inv.stands))) in
     let gone = some_on c.args.hand.now c.loop-behind.hand inv.mid _ _ _ _ _ 0 _ _ _ _ _ _ _ _ inv.same.0 inv.first s is_left _ _ went.does in
     record {
@@ -43,7 +45,9 @@ loop-behind-smaller c =
     let s = rw c.in-Part.is at inv.so_far in
     let long = length-append c.args.rows.now.items s.rows in
     let all = ap length s.grown in
-    let is_left : c.args.most - (length c.loop-behind.rows.items - length c.args.rows.now.items) ≡ c.args.most - length s.rows = omega (arith, long, all) in
+    let now : c.len.result ≡ length c.loop-behind.rows.items = c.len.ensures ∙ c.loop-behind.rows.ok.0 in
+    let was : c.len-before.result ≡ length c.args.rows.now.items = c.len-before.ensures ∙ c.args.rows.now.ok.0 in
+    let is_left : c.args.most - (c.len.result - c.len-before.result) ≡ c.args.most - length s.rows = omega (arith, long, all, now, was) in
     let went = rw c.in-Ok.is at (c.give_some_of.ensures.gives inv.mid (set_off_again _ c.args.hand.now c.loop-behind.hand inv.same.0 _ _ _ _ (rw c.in-Part.is at inv.stands))) in
     let gone = some_on c.args.hand.now c.loop-behind.hand inv.mid _ _ _ _ _ 0 _ _ _ _ _ _ _ _ inv.same.0 inv.first s is_left _ _ went.does in
     subst (λ (b : Behind). left_behind c.args.wanted.direction c.in-Ok.on < left_behind c.args.wanted.direction b) (sym c.in-Part.is) gone.1
@@ -54,7 +58,9 @@ returns-in-Err-clause-scans c =
     let s = rw c.in-Part.is at inv.so_far in
     let long = length-append c.args.rows.now.items s.rows in
     let all = ap length s.grown in
-    let is_left : c.args.most - (length c.loop-behind.rows.items - length c.args.rows.now.items) ≡ c.args.most - length s.rows = omega (arith, long, all) in
+    let now : c.len.result ≡ length c.loop-behind.rows.items = c.len.ensures ∙ c.loop-behind.rows.ok.0 in
+    let was : c.len-before.result ≡ length c.args.rows.now.items = c.len-before.ensures ∙ c.args.rows.now.ok.0 in
+    let is_left : c.args.most - (c.len.result - c.len-before.result) ≡ c.args.most - length s.rows = omega (arith, long, all, now, was) in
     let left = rw c.in-Err.is at (c.give_some_of.ensures.gives inv.mid (set_off_again _ c.args.hand.now c.loop-behind.hand inv.same.0 _ _ _ _ (rw c.in-Part.is at inv.stands))) in
     some_stops c.args.hand.now c.loop-behind.hand inv.mid _ _ _ _ _ 0 _ _ _ _ _ _ _ _ inv.same.0 inv.first s is_left _ _ left.does
 
