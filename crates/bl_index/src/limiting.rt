@@ -187,7 +187,14 @@ fn give_some_of(
     let (behind, next) = stand_behind(portion.behind, last - first < most, cut.left);
     fetch_behind(tree, behind);
     let (first, last) = (cut.first, cut.last);
-    match give_rows::<_, Vec<(u64, u64)>, Appending>(&shown, hand, wanted.direction, first, last, rows) {
+    match give_rows::<_, Vec<(u64, u64)>, Appending>(
+        &shown,
+        hand,
+        wanted.direction,
+        first,
+        last,
+        rows,
+    ) {
         Ok(()) => {
             let on = go_behind(tree, hand, wanted.direction, behind);
             Ok((behind, next, on))
