@@ -29,7 +29,7 @@ loop-behind-preserved c =
     let was : c.len-before.result ≡ length c.args.rows.now.items = c.len-before.ensures ∙ c.args.rows.now.ok.0 in
     let is_left : c.args.most - (c.len.result - c.len-before.result) ≡ c.args.most - length s.rows = omega (arith, long, all, now, was) in
     let went = rw c.in-Ok.is at (c.give_some_of.ensures.gives inv.mid (set_off_again _ c.args.hand.now c.loop-behind.hand inv.same.0 _ _ _ _ (rw c.in-Part.is at inv.stands))) in
-    let gone = some_on c.args.hand.now c.loop-behind.hand inv.mid _ _ _ _ _ 0 _ _ _ _ _ _ _ _ inv.same.0 inv.first s is_left _ _ went.does in
+    let gone = some_on c.args.hand.now c.loop-behind.hand inv.mid _ _ _ _ _ 0 _ c.loop-behind.next _ _ _ _ _ _ inv.same.0 inv.first s is_left _ _ went.does in
     record {
       same = search rules;
       mid = went.new;
@@ -49,7 +49,7 @@ loop-behind-smaller c =
     let was : c.len-before.result ≡ length c.args.rows.now.items = c.len-before.ensures ∙ c.args.rows.now.ok.0 in
     let is_left : c.args.most - (c.len.result - c.len-before.result) ≡ c.args.most - length s.rows = omega (arith, long, all, now, was) in
     let went = rw c.in-Ok.is at (c.give_some_of.ensures.gives inv.mid (set_off_again _ c.args.hand.now c.loop-behind.hand inv.same.0 _ _ _ _ (rw c.in-Part.is at inv.stands))) in
-    let gone = some_on c.args.hand.now c.loop-behind.hand inv.mid _ _ _ _ _ 0 _ _ _ _ _ _ _ _ inv.same.0 inv.first s is_left _ _ went.does in
+    let gone = some_on c.args.hand.now c.loop-behind.hand inv.mid _ _ _ _ _ 0 _ c.loop-behind.next _ _ _ _ _ _ inv.same.0 inv.first s is_left _ _ went.does in
     subst (λ (b : Behind). left_behind c.args.wanted.direction c.in-Ok.on < left_behind c.args.wanted.direction b) (sym c.in-Part.is) gone.1
 
 pub returns-in-Err-clause-scans : goal.returns-in-Err-clause-scans
@@ -62,7 +62,7 @@ returns-in-Err-clause-scans c =
     let was : c.len-before.result ≡ length c.args.rows.now.items = c.len-before.ensures ∙ c.args.rows.now.ok.0 in
     let is_left : c.args.most - (c.len.result - c.len-before.result) ≡ c.args.most - length s.rows = omega (arith, long, all, now, was) in
     let left = rw c.in-Err.is at (c.give_some_of.ensures.gives inv.mid (set_off_again _ c.args.hand.now c.loop-behind.hand inv.same.0 _ _ _ _ (rw c.in-Part.is at inv.stands))) in
-    some_stops c.args.hand.now c.loop-behind.hand inv.mid _ _ _ _ _ 0 _ _ _ _ _ _ _ _ inv.same.0 inv.first s is_left _ _ left.does
+    some_stops c.args.hand.now c.loop-behind.hand inv.mid _ _ _ _ _ 0 _ c.loop-behind.next _ _ _ _ _ _ inv.same.0 inv.first s is_left _ _ left.does
 
 pub returns-in-Err-clause-rests : goal.returns-in-Err-clause-rests
 returns-in-Err-clause-rests c = (rw c.in-Err.is at (c.give_some_of.ensures.gives c.loop-behind.invariant.mid (set_off_again _ c.args.hand.now c.loop-behind.hand c.loop-behind.invariant.same.0 _ _ _ _ (rw c.in-Part.is at c.loop-behind.invariant.stands)))).rests
