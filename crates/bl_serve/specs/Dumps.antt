@@ -1,17 +1,13 @@
 -- The image that a server leaves.
-use Rattle.std.specs.Prelude.{◌≤◌, ℕ, List, Option, Result, IfOk, length}
-use Rattle.bl_model.specs.Map.{Map, SameMap}
-use Rattle.bl_model.specs.History.{final_map}
+use Rattle.std.specs.Prelude.{ℕ, List, Result, IfOk, length}
 use Rattle.bl_model.specs.Rows.{map_of}
-use Rattle.bl_model.specs.declared.operation.Entry.{Entry}
-use Rattle.bl_page.specs.declared.page.Page.{Page}
-use Rattle.bl_check.specs.Rows.{AreRowsOf}
 use Rattle.bl_check.specs.declared.quiet.Quiet.{Quiet}
 use Rattle.bl_serve_lines.specs.declared.serving.Sectioning.{Sectioning}
 use Rattle.bl_serve_lines.specs.declared.serving.Totals.{Totals}
 use Rattle.bl_serve_lines.specs.Served.{whole_history}
 use Rattle.bl_serve_ground.specs.declared.origin.Origin.{Origin}
 use Rattle.bl_serve_ground.specs.Growing.{IsDoubled}
+use Rattle.bl_serve_ground.specs.Leaving.{HoldMapAfter}
 use Rattle.bl_serve_ground.specs.Origins.{size_of, sizes_of}
 use Rattle.bl_serve.specs.Origins.{ServedFrom}
 
