@@ -33,5 +33,5 @@ owned_still how (Lent index) olds new news totals input output own s = absurd ow
 owned_still how (Own index limits) olds (Lent now) news totals input output own s = absurd s.stands.still
 owned_still how (Own index limits) olds (Own now its) news totals input output own s = tt
 
-pub owned_first : (index : Index) (most : ℕ) (ground : Ground) → IsOwn index limits ground → IsOwned ground
+pub owned_first : (index : Index) (most : ℕ) (ground : Ground) → IsOwn index most ground → IsOwned ground
 owned_first index most ground own = subst IsOwned (sym own.own) tt
