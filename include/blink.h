@@ -765,7 +765,8 @@ BLINK_INLINE int32_t blink_range(blink_seat *seat, uint64_t from, uint64_t last,
 static inline int32_t blink_list_(blink_seat *seat, bool down, uint64_t from,
                                   uint64_t last, blink_row *rows, size_t room,
                                   size_t *count, uint64_t *next, bool *more) {
-    enum { BLINK_AT_ONCE = 256 };
+    /* The library lists them in memory of its own first. */
+    const size_t at_once = 256;
     blink_part part = { 0, 0, true, 0 };
     *count = 0;
     *next = from;
@@ -773,10 +774,12 @@ static inline int32_t blink_list_(blink_seat *seat, bool down, uint64_t from,
     if (room == 0) return BLINK_FEW_ROWS;
     while (*more && *count < room) {
         blink_row *rest = rows + *count;
-        size_t left = room - *count, some = left < BLINK_AT_ONCE ? left : BLINK_AT_ONCE;
+        const size_t left = room - *count;
+        const size_t some = left < at_once ? left : at_once;
         int32_t answer;
         if (down)
-            BLINK_CALL_(seat, blink_try_scan_down, answer, *next, last, rest, some, &part);
+            BLINK_CALL_(seat, blink_try_scan_down, answer, *next, last, rest, some,
+                        &part);
         else
             BLINK_CALL_(seat, blink_try_scan, answer, *next, last, rest, some, &part);
         if (answer == BLINK_CLOSED) return answer;

@@ -83,8 +83,10 @@ impl Seat {
         ensures keeps { KeepsUpkeep self.old self.new }
         ensures listed { HasListed direction from to most (vec_capacity result.0 - vec_len result.0) result.1 result.0.items self.old self.new }
     {
-        let turns = self.index.patience();
-        let limits = ScanLimits { most, turns };
+        let limits = ScanLimits {
+            most,
+            turns: self.index.patience(),
+        };
         let mut rows = room_for_rows(alloc, most);
         let told = self
             .index
