@@ -26,7 +26,6 @@ mod ordering;
 mod seating;
 mod shrinking;
 mod stamping;
-mod working;
 
 pub use bl_index::{
     CloseFault, Hint, KeyReply, KeyWrite, Next, OpenFault, Pass as Seat, Reply, ResizeFault,
@@ -43,4 +42,3 @@ pub use ordering::stamps_keep_order;
 pub use seating::{give_seats, handles_over};
 pub use shrinking::{UnshrunkMap, shrinking_adds_a_life};
 pub use stamping::Stamp;
-pub use working::{Job, Unworked, WorkFault};

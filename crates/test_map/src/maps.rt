@@ -9,6 +9,7 @@ mod growing;
 mod images;
 mod limits;
 mod room;
+mod rounds;
 mod scans;
 mod seats;
 mod stamps;
