@@ -9,20 +9,24 @@ use std::sync::atomic::{AtomicU64, Ordering};
 use std::thread;
 use std::time::Instant;
 
-fn key_of(row: u64) -> u64 {
-    row.wrapping_mul(0x9e37_79b9_7f4a_7c15)
+const WIDTH: u64 = 100;
+
+/// A number that looks random, another one for each: the key of a row, and what is drawn next.
+fn scattered(number: u64) -> u64 {
+    let first = number.wrapping_add(1).wrapping_mul(0x9e37_79b9_7f4a_7c15);
+    let second = (first ^ (first >> 30)).wrapping_mul(0xbf58_476d_1ce4_e5b9);
+    let third = (second ^ (second >> 27)).wrapping_mul(0x94d0_49bb_1331_11eb);
+    third ^ (third >> 31)
 }
 
-fn after(seed: u64) -> u64 {
-    seed.wrapping_mul(6_364_136_223_846_793_005).wrapping_add(1_442_695_040_888_963_407)
+/// One of the rows.
+fn row_of(drawn: u64, rows: u64) -> u64 {
+    (drawn >> 8).checked_rem(rows).unwrap_or(0)
 }
 
-fn row_of(seed: u64, rows: u64) -> u64 {
-    if rows == 0 { 0 } else { (seed >> 24) % rows }
-}
-
+/// How far the ends of a scan of about 100 rows are apart.
 fn width(rows: u64) -> u64 {
-    if rows <= 100 { u64::MAX } else { u64::MAX / (rows / 100) }
+    u64::MAX / WIDTH / (rows / WIDTH + 1) * WIDTH
 }
 
 type Map = RwLock<BTreeMap<u64, u64>>;
@@ -45,7 +49,7 @@ fn find(map: &Map, key: u64) -> Option<u64> {
 fn fill(map: &Map, place: u64, rows: u64, threads: u64) -> u64 {
     let mut done = 0;
     for row in 0..rows {
-        if row % threads == place && insert(map, key_of(row), row) {
+        if row % threads == place && insert(map, scattered(row), row) {
             done += 1;
         }
     }
@@ -54,10 +58,10 @@ fn fill(map: &Map, place: u64, rows: u64, threads: u64) -> u64 {
 
 fn search(map: &Map, place: u64, rows: u64, finds: u64) -> u64 {
     let mut done = 0;
-    let mut seed = place;
+    let mut seed = scattered(place);
     for _ in 0..finds {
-        seed = after(seed);
-        if find(map, key_of(row_of(seed, rows))).is_some() {
+        seed = scattered(seed);
+        if find(map, scattered(row_of(seed, rows))).is_some() {
             done += 1;
         }
     }
@@ -66,21 +70,21 @@ fn search(map: &Map, place: u64, rows: u64, finds: u64) -> u64 {
 
 fn mix(map: &Map, place: u64, rows: u64, mixed: u64) -> u64 {
     let mut done = 0;
-    let mut seed = place;
+    let mut seed = scattered(place);
     for round in 0..mixed {
         if round % 4 != 3 {
-            seed = after(seed);
+            seed = scattered(seed);
         }
         let row = row_of(seed, rows);
         match round % 4 {
             2 => {
-                map.write().unwrap().remove(&key_of(row));
+                map.write().unwrap().remove(&scattered(row));
             }
             3 => {
-                insert(map, key_of(row), row);
+                insert(map, scattered(row), row);
             }
             _ => {
-                std::hint::black_box(find(map, key_of(row)));
+                std::hint::black_box(find(map, scattered(row)));
             }
         }
         done += 1;
@@ -92,12 +96,13 @@ fn scan(map: &Map, place: u64, rows: u64, scans: u64) -> u64 {
     let width = width(rows);
     let mut listed = Vec::new();
     let mut done = 0;
-    let mut seed = place;
+    let mut seed = scattered(place);
     for _ in 0..scans {
-        seed = after(seed);
+        seed = scattered(seed);
         listed.clear();
-        let end = seed.saturating_add(width);
-        listed.extend(map.read().unwrap().range(seed..end).map(|(key, value)| (*key, *value)));
+        let from = scattered(row_of(seed, rows));
+        let end = from.saturating_add(width);
+        listed.extend(map.read().unwrap().range(from..end).map(|(key, value)| (*key, *value)));
         done += listed.len() as u64;
     }
     done
@@ -112,16 +117,6 @@ fn run(threads: u64, work: impl Fn(u64) -> u64 + Sync) -> u64 {
         }
     });
     done.into_inner()
-}
-
-const WIDTH: u64 = 100;
-
-/// A number that looks random, another one for each.
-fn scattered(number: u64) -> u64 {
-    let first = number.wrapping_add(1).wrapping_mul(0x9e37_79b9_7f4a_7c15);
-    let second = (first ^ (first >> 30)).wrapping_mul(0xbf58_476d_1ce4_e5b9);
-    let third = (second ^ (second >> 27)).wrapping_mul(0x94d0_49bb_1331_11eb);
-    third ^ (third >> 31)
 }
 
 /// The load of `bench_map`.
@@ -145,10 +140,6 @@ impl Large {
         if self.rises { row } else { scattered(row) }
     }
 
-    fn drawn(&self, seed: u64) -> u64 {
-        (seed >> 8).checked_rem(self.rows).unwrap_or(0)
-    }
-
     fn timed(&self, part: &str, calls: u64, work: impl Fn(u64) -> u64 + Sync) {
         let start = Instant::now();
         let done = run(self.threads, work);
@@ -158,16 +149,16 @@ impl Large {
     fn run(&self) {
         let map = RwLock::new(BTreeMap::new());
         let turns = self.calls / self.threads;
-        let width = if self.rises { WIDTH } else { u64::MAX / WIDTH / (self.rows / WIDTH + 1) * WIDTH };
+        let width = if self.rises { WIDTH } else { width(self.rows) };
         self.timed("rows", self.rows, |place| {
-            let rows = (0..self.rows / self.threads).map(|turn| turn * self.threads + place);
+            let rows = (place..self.rows).step_by(self.threads as usize);
             rows.filter(|row| insert(&map, self.key(*row), *row)).count() as u64
         });
         self.timed("finds", self.calls, |place| {
             let mut seed = scattered(place);
             let draw = (0..turns).map(|_| {
                 seed = scattered(seed);
-                self.key(self.drawn(seed))
+                self.key(row_of(seed, self.rows))
             });
             draw.filter(|key| find(&map, *key).is_some()).count() as u64
         });
@@ -175,7 +166,7 @@ impl Large {
             let (mut done, mut seed, mut listed) = (0, scattered(place), Vec::new());
             for _ in 0..turns / WIDTH {
                 seed = scattered(seed);
-                let from = self.key(self.drawn(seed));
+                let from = self.key(row_of(seed, self.rows));
                 listed.clear();
                 listed.extend(map.read().unwrap().range(from..from.saturating_add(width)).map(|(key, value)| (*key, *value)));
                 done += listed.len() as u64;

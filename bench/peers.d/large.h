@@ -7,23 +7,13 @@
 
 #include "load.h"
 
-constexpr u64 WIDTH = 100;
-
-// A number that looks random, another one for each.
-inline u64 scattered(u64 number) {
-    u64 first = (number + 1) * 0x9e3779b97f4a7c15u;
-    u64 second = (first ^ (first >> 30)) * 0xbf58476d1ce4e5b9u;
-    u64 third = (second ^ (second >> 27)) * 0x94d049bb133111ebu;
-    return third ^ (third >> 31);
-}
-
 struct Large {
     u64 rows, threads, calls;
     bool rises;
 
     u64 key(u64 row) const { return rises ? row : scattered(row); }
-    u64 drawn(u64 seed) const { return rows ? (seed >> 8) % rows : 0; }
-    u64 width() const { return rises ? WIDTH : UINT64_MAX / WIDTH / (rows / WIDTH + 1) * WIDTH; }
+    u64 drawn(u64 seed) const { return row_of(seed, rows); }
+    u64 scanned() const { return rises ? WIDTH : width(rows); }
 };
 
 inline void timed(const Large& load, const char* part, u64 calls, const std::function<u64(u64)>& work) {
@@ -40,10 +30,7 @@ template <class Peer> int large(char** words) {
     Peer peer;
     timed(load, "rows", load.rows, [&](u64 place) {
         u64 done = 0;
-        for (u64 turn = 0; turn < load.rows / load.threads; turn++) {
-            u64 row = turn * load.threads + place;
-            done += peer.insert(load.key(row), row);
-        }
+        for (u64 row = place; row < load.rows; row += load.threads) done += peer.insert(load.key(row), row);
         return done;
     });
     timed(load, "finds", load.calls, [&](u64 place) {
@@ -59,7 +46,7 @@ template <class Peer> int large(char** words) {
         std::vector<Row> listed;
         for (u64 call = 0; call < load.calls / load.threads / WIDTH; call++) {
             seed = scattered(seed);
-            u64 from = load.key(load.drawn(seed)), to = from > UINT64_MAX - load.width() ? UINT64_MAX : from + load.width();
+            u64 from = load.key(load.drawn(seed)), to = from > UINT64_MAX - load.scanned() ? UINT64_MAX : from + load.scanned();
             listed.clear();
             peer.list(from, to, listed);
             done += listed.size();

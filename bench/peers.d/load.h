@@ -1,5 +1,5 @@
 // The load of `bench_map index` on another map: PEER ROWS THREADS FINDS MIXED SCANS prints what `bench_map index` prints. A peer has insert, find, erase
-// and list, each of which any thread may call.
+// and list, each of which any thread may call. The keys are the same.
 #pragma once
 #include <atomic>
 #include <cstdint>
@@ -13,10 +13,19 @@
 using u64 = std::uint64_t;
 using Row = std::pair<u64, u64>;
 
-inline u64 key_of(u64 row) { return row * 0x9e3779b97f4a7c15u; }
-inline u64 after(u64 seed) { return seed * 6364136223846793005u + 1442695040888963407u; }
-inline u64 row_of(u64 seed, u64 rows) { return rows ? (seed >> 24) % rows : 0; }
-inline u64 width(u64 rows) { return rows <= 100 ? UINT64_MAX : UINT64_MAX / (rows / 100); }
+constexpr u64 WIDTH = 100;
+
+// A number that looks random, another one for each: the key of a row, and what is drawn next.
+inline u64 scattered(u64 number) {
+    u64 first = (number + 1) * 0x9e3779b97f4a7c15u;
+    u64 second = (first ^ (first >> 30)) * 0xbf58476d1ce4e5b9u;
+    u64 third = (second ^ (second >> 27)) * 0x94d049bb133111ebu;
+    return third ^ (third >> 31);
+}
+
+// One of the rows, and how far the ends of a scan of about 100 of them are apart.
+inline u64 row_of(u64 drawn, u64 rows) { return rows ? (drawn >> 8) % rows : 0; }
+inline u64 width(u64 rows) { return UINT64_MAX / WIDTH / (rows / WIDTH + 1) * WIDTH; }
 
 // What the threads have done together.
 inline u64 together(u64 threads, const std::function<u64(u64)>& work) {
@@ -29,39 +38,39 @@ inline u64 together(u64 threads, const std::function<u64(u64)>& work) {
 
 template <class Peer> u64 fill(Peer& peer, u64 place, u64 rows, u64 threads) {
     u64 done = 0;
-    for (u64 row = place; row < rows; row += threads) done += peer.insert(key_of(row), row);
+    for (u64 row = place; row < rows; row += threads) done += peer.insert(scattered(row), row);
     return done;
 }
 
 template <class Peer> u64 search(Peer& peer, u64 place, u64 rows, u64 finds) {
-    u64 done = 0, seed = place, value;
+    u64 done = 0, seed = scattered(place), value;
     for (u64 round = 0; round < finds; round++) {
-        seed = after(seed);
-        done += peer.find(key_of(row_of(seed, rows)), value);
+        seed = scattered(seed);
+        done += peer.find(scattered(row_of(seed, rows)), value);
     }
     return done;
 }
 
 template <class Peer> u64 mix(Peer& peer, u64 place, u64 rows, u64 mixed) {
-    u64 seed = place, value;
+    u64 seed = scattered(place), value;
     for (u64 round = 0; round < mixed; round++) {
-        if (round % 4 != 3) seed = after(seed);
-        u64 row = row_of(seed, rows);
-        if (round % 4 == 2) peer.erase(key_of(row));
-        else if (round % 4 == 3) peer.insert(key_of(row), row);
-        else peer.find(key_of(row), value);
+        if (round % 4 != 3) seed = scattered(seed);
+        u64 row = row_of(seed, rows), key = scattered(row);
+        if (round % 4 == 2) peer.erase(key);
+        else if (round % 4 == 3) peer.insert(key, row);
+        else peer.find(key, value);
     }
     return mixed;
 }
 
 template <class Peer> u64 scan(Peer& peer, u64 place, u64 rows, u64 scans) {
-    u64 done = 0, seed = place;
+    u64 done = 0, seed = scattered(place);
     std::vector<Row> listed;
     for (u64 round = 0; round < scans; round++) {
-        seed = after(seed);
-        u64 end = seed > UINT64_MAX - width(rows) ? UINT64_MAX : seed + width(rows);
+        seed = scattered(seed);
+        u64 from = scattered(row_of(seed, rows)), end = from > UINT64_MAX - width(rows) ? UINT64_MAX : from + width(rows);
         listed.clear();
-        peer.list(seed, end, listed);
+        peer.list(from, end, listed);
         done += listed.size();
     }
     return done;

@@ -314,18 +314,17 @@ fn has_failed(workers: &[Worker<'_>]) -> bool {
     false
 }
 
+/// Prints a call of a thread.
+fn print_call<W: Write + Drop>(out: &mut W, thread: usize, call: Call) -> io::Result<()> {
+    write!(out, "{thread} {} {} {} ", call.begin, call.end, call.key)?;
+    writeln!(out, "{:?} {:?}", call.asked, call.reply)
+}
+
 /// Prints the calls of a round.
 fn print<W: Write + Drop>(out: &mut W, workers: &[Worker<'_>]) -> io::Result<()> {
     for (thread, worker) in workers.iter().enumerate() {
         for call in worker.calls.as_slice() {
-            let Call {
-                begin,
-                end,
-                key,
-                asked,
-                reply,
-            } = *call;
-            writeln!(out, "{thread} {begin} {end} {key} {asked:?} {reply:?}")?;
+            print_call(out, thread, *call)?;
         }
     }
     writeln!(out, "round")

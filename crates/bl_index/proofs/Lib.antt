@@ -13,6 +13,7 @@ pub mod Learning
 pub mod Encounters
 pub mod Scanned
 pub mod PartByPart
+pub mod SomeByPart
 pub mod Holders
 pub mod Gathered
 pub mod AtRest

@@ -33,7 +33,7 @@ use Rattle.bl_index_range.proofs.PartsMade.{calls_push}
 use Rattle.bl_index.proofs.Scanned.{IsBetween, parts_push, right_more, between_more, order_more}
 
 -- a scan that is about to begin
-pub scans_none : (first : List (Option Page)) (pages pass turns : ℕ) (direction : Direction) (from : ℕ) (to : Option ℕ) (old : Trail) → Scans first pages pass turns direction from to (Some from) [] old old
+unfoldable pub scans_none : (first : List (Option Page)) (pages pass turns : ℕ) (direction : Direction) (from : ℕ) (to : Option ℕ) (old : Trail) → Scans first pages pass turns direction from to (Some from) [] old old
 scans_none first pages pass turns direction from to old = record {
   parts = [];
   are_parts = refl;
@@ -83,6 +83,10 @@ module _ (first : List (Option Page)) (pages pass turns : ℕ) (direction : Dire
         right = right_more first pass direction from at to (history_of old) (history_of s.begins.0) (history_of mid) (history_of new) entry listed is_part on stands_there refl on_way s.within s.right;
       }
 
+  pub parts_more : (from : ℕ) (to : Option ℕ) (listed : List (ℕ × ℕ)) (old : Trail) (s : Scans first pages pass turns direction from to (Some at) listed old mid) (on_way : IsFrom direction from at) (before : IsBefore direction to at) → (scans_more from to listed old s on_way before).parts ≡ s.parts ++ entry ∷ []
+  unfolding scans_more
+  parts_more from to listed old s on_way before = refl
+
 module _ {S : Type 0} (takes : S → List (ℕ × ℕ) → S → Type 0) (first : List (Option Page)) (pages pass it turns : ℕ) (direction : Direction) (from at : ℕ) (to : Option ℕ) (behind : Behind) (listed : List (ℕ × ℕ)) (before after : S) (old mid new : Trail) (same : it ≡ pass) (s : Scans first pages pass turns direction from to (Some at) listed old mid) (on_way : IsFrom direction from at) (before_to : IsBefore direction to at) where
   abbrev Step : Option ℕ → Type 0
   Step upto = (rows : List (ℕ × ℕ)) × takes before rows after × Scans first pages pass turns direction from to upto (listed ++ rows) old new
@@ -119,11 +123,11 @@ abbrev pub keys_from : Direction → ℕ → ℕ
 keys_from Up at = 2 ^ 64 - at
 keys_from Down at = at + 1
 
-some_left : (direction : Direction) (at : ℕ) → at < 2 ^ 64 → 0 < keys_from direction at
+pub some_left : (direction : Direction) (at : ℕ) → at < 2 ^ 64 → 0 < keys_from direction at
 some_left Up at fits = omega (arith, fits)
 some_left Down at fits = omega arith
 
-fewer_left : (direction : Direction) (at n : ℕ) → IsBefore direction (Some n) at → n < 2 ^ 64 → keys_from direction n < keys_from direction at
+pub fewer_left : (direction : Direction) (at n : ℕ) → IsBefore direction (Some n) at → n < 2 ^ 64 → keys_from direction n < keys_from direction at
 fewer_left Up at n before fits = omega (arith, before, fits)
 fewer_left Down at n before fits = omega (arith, before)
 

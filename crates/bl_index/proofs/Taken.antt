@@ -61,15 +61,9 @@ there [] i d h = absurd (omega arith)
 there (x ∷ xs) zero d h = refl
 there (x ∷ xs) (suc i) d h = there xs i d (omega arith)
 
--- all passes of an index, and all but the last one
+-- all passes of an index
 pub all_begun : (image : List (Option Page)) (size among : ℕ) (index : Index) (passes : List Pass) → IsBegun image size among index passes → All (IsPassOf index) passes
 all_begun image size among index passes o = λ k d lt. (o.each k (get_or passes k d) (there passes k d lt)).0
 
 pub all_passes : (config : Config) (index : Index) (passes : List Pass) → IsIndexOpened config index passes → All (IsPassOf index) passes
 all_passes config index passes o = all_begun [] config.pages config.passes index passes o
-
-pub front_begun : (image : List (Option Page)) (size among : ℕ) (index : Index) (passes rest : List Pass) (pass : Pass) → IsBegun image size among index passes → passes ≡ rest ++ pass ∷ [] → All (IsPassOf index) rest
-front_begun image size among index passes rest pass o e = λ k d lt. (o.each k (get_or rest k d) (ap (λ (z : List Pass). get_elem? z k) e ∙ at_longer rest (pass ∷ []) k (get_or rest k d) (there rest k d lt))).0
-
-pub front_passes : (config : Config) (index : Index) (passes rest : List Pass) (pass : Pass) → IsIndexOpened config index passes → passes ≡ rest ++ pass ∷ [] → All (IsPassOf index) rest
-front_passes config index passes rest pass o e = front_begun [] config.pages config.passes index passes rest pass o e

@@ -2,6 +2,7 @@ pub mod Calls
 pub mod Opened
 pub mod Meetings
 pub mod Scans
+pub mod Limits
 pub mod Closed
 pub mod Resized
 pub mod Lives

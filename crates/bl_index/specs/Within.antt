@@ -1,9 +1,20 @@
 -- What functions of the index tell one another: the kind of an answer, and how a scan goes on behind one of its parts.
-use Rattle.std.specs.Prelude.{◌≡◌, ℕ, Bool, true, false, Option, None, Some, Result, Ok, Err}
+use Rattle.std.specs.Prelude.{◌≡◌, ℕ, ◌-◌, ◌^◌, ◌<◌, ◌≤◌, ◌++◌, Bool, true, false, Option, None, Some, Result, Ok, Err, List, IfSome, min, length, take, drop}
 use Rattle.bl_claims.specs.Seeing.{IsSeen}
 use Rattle.bl_claims.specs.Trails.{Trail}
 use Rattle.bl_index_read.specs.Parts.{StandsBehind}
 use Rattle.bl_index_read.specs.declared.leaf_rows.Behind.{Behind}
+use Rattle.bl_index_read.specs.declared.leaf_rows.Behind.TheVariants.{Part, Nothing}
+use Rattle.bl_index_read.specs.LeafRows.{first_key, IsBefore}
+use Rattle.bl_index_read.specs.Searching.{Finds}
+use Rattle.bl_index_range.specs.Parts.{rows_before}
+use Rattle.bl_model.specs.declared.operation.Reply.{Reply}
+use Rattle.bl_model.specs.Parts.{ended_at}
+use Rattle.bl_page.specs.declared.page.Page.{Page}
+use Rattle.bl_proc.specs.Parts.{op_toward}
+use Rattle.bl_index.specs.declared.scanning.ScanFault.{ScanFault}
+use Rattle.bl_index.specs.Scans.{LeavesPart}
+use Rattle.bl_index.specs.Limits.{IsNext}
 use Rattle.bl_proc.specs.declared.parts.Direction.{Direction}
 use Rattle.bl_index_rule.specs.declared.known.PassState.{PassState}
 use Rattle.bl_index_events.specs.Runs.{IsDone, Rests}
@@ -70,3 +81,36 @@ is_sink_at_top l = false
 abbrev pub is_at_top : LowerStage → Bool
 is_at_top (Sinking l) = is_sink_at_top l
 is_at_top s = false
+
+-- ---- scans that list so many rows at most
+
+-- How a scan goes on behind a part, where more rows are wanted; or ends, and where the next one begins.
+abbrev pub stand_of : Behind → Bool → Option ℕ → Behind × Option ℕ
+stand_of behind true left = (behind, None)
+stand_of behind false (Some key) = (Nothing, Some key)
+stand_of (Part key near) false None = (Nothing, Some key)
+stand_of Nothing false None = (Nothing, None)
+
+-- Behind a part with these rows, of which so many are wanted, a scan goes on so, or ends and says where the next one begins.
+abbrev pub GoesOnSome : Direction → Option ℕ → ℕ → List (ℕ × ℕ) → Option ℕ → Behind → Option ℕ → Type 0
+GoesOnSome direction to most rows upto (Part key near) next = (upto ≡ Some key) × (key < 2 ^ 64) × IsBefore direction to key × (length rows < most)
+GoesOnSome direction to most rows upto Nothing next = IsNext direction (first_key (drop most rows)) to upto next × IfSome next (λ _. most ≤ length rows)
+
+-- One part of a scan was answered, and the first of its rows before the scan's end are appended, so many at most.
+pub record GivesSome (first : List (Option Page)) (pages pass turns : ℕ) (direction : Direction) (from : ℕ) (to : Option ℕ) (most : ℕ)
+    (behind : Behind) (next : Option ℕ) (before after : List (ℕ × ℕ)) (old new : Trail) : Type 0 where
+  pub reply : Reply
+  pub finds : Finds first pages pass turns (op_toward direction from) reply old new
+  pub taken : after ≡ before ++ take most (rows_before direction to reply)
+  pub goes : GoesOnSome direction to most (rows_before direction to reply) (ended_at reply) behind next
+
+-- The scan stops at that part, and nothing of it is appended.
+abbrev pub LeavesSome : List (Option Page) → ℕ → ℕ → ℕ → Direction → ℕ → Option ℕ → ℕ → ℕ → ScanFault → List (ℕ × ℕ) → List (ℕ × ℕ) → Trail → Trail → Type 0
+LeavesSome first pages pass turns direction from to most room fault before after old new =
+    LeavesPart first pages pass turns direction from to (λ many. room < min most many) fault before after old new
+
+-- One or the other.
+abbrev pub GoesSomeOrStops : Tree → Hand PassState → ℕ → Direction → (Behind → Option ℕ → Trail → Trail → Type 0) → (ScanFault → Trail → Trail → Type 0)
+    → PassState → Result (Behind × Option ℕ × Descent) ScanFault → Type 0
+GoesSomeOrStops tree hand pass direction goes stops old (Ok on) = GoesBehind tree hand pass direction on.0 on.2 (goes on.0 on.1) old
+GoesSomeOrStops tree hand pass direction goes stops old (Err fault) = StopsBefore hand (stops fault) old

@@ -46,16 +46,16 @@ pub struct OutOfTurnsAt {
 
 /// Which rows a scan is to give, part by part.
 #[derive(Clone, Copy)]
-struct Wanted {
-    direction: Direction,
+pub(crate) struct Wanted {
+    pub(crate) direction: Direction,
     /// Those of keys before that one, if there is one.
-    to: Option<u64>,
+    pub(crate) to: Option<u64>,
     /// How many pages each part may get.
-    turns: u32,
+    pub(crate) turns: u32,
 }
 
 /// Whether the key comes before the end, if there is one.
-fn is_before(direction: Direction, to: Option<u64>, key: u64) -> bool
+pub(crate) fn is_before(direction: Direction, to: Option<u64>, key: u64) -> bool
     ensures { result ≡ before direction to key }
 {
     match direction {

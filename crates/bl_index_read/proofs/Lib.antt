@@ -10,3 +10,4 @@ pub mod Portions
 pub mod Leaves
 pub mod Given
 pub mod Together
+pub mod Cuts

@@ -1,5 +1,5 @@
 -- The rows of a leaf that a part lists, and those of them that a scan gives, upwards or downwards.
-use Rattle.std.specs.Prelude.{◌≡◌, ℕ, ◌+◌, ◌^◌, ◌<◌, ◌≤◌, Bool, true, false, nat_le, nat_lt, List, length, filter, reverse, Option, Some, None}
+use Rattle.std.specs.Prelude.{◌≡◌, ℕ, ◌+◌, ◌^◌, ◌<◌, ◌≤◌, Bool, true, false, nat_le, nat_lt, List, [], ◌∷◌, length, filter, reverse, Option, Some, None}
 use Rattle.bl_model.specs.Rows.{key_at}
 use Rattle.bl_model.specs.declared.operation.Next.{Next}
 use Rattle.bl_page.specs.declared.page.Page.{Page}
@@ -98,3 +98,8 @@ toward Down rows = reverse rows
 abbrev pub portion_of : Direction → ℕ → Option ℕ → List (ℕ × ℕ) → List (ℕ × ℕ)
 portion_of Up from to rows = rows_between from to rows
 portion_of Down from to rows = reverse (rows_between (first_above to) (Some (from + 1)) rows)
+
+-- the key of the first of these rows, if there is one
+abbrev pub first_key : List (ℕ × ℕ) → Option ℕ
+first_key [] = None
+first_key (row ∷ rows) = Some row.0

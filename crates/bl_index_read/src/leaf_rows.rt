@@ -103,7 +103,7 @@ fn place_before<W: Words>(
 
 /// The row at a place.
 #[inline(always)]
-fn row_at<W: Words>(source: &W, hand: &mut W::Hand, place: usize) -> (u64, u64)
+pub(crate) fn row_at<W: Words>(source: &W, hand: &mut W::Hand, place: usize) -> (u64, u64)
     requires sees { W.Sees source.now hand.old }
     requires pairs { HasPairs (W.shown source.now hand.old) }
     requires place { place < count_in (W.shown source.now hand.old) }

@@ -5,6 +5,7 @@
 //! of any.
 #![tactic(auto)]
 
+mod cutting;
 mod finding;
 mod leaf_rows;
 mod leaf_ways;
@@ -12,6 +13,7 @@ mod listing;
 mod sinks;
 mod sought;
 
+pub use cutting::{Cut, first_rows};
 pub use finding::{OutOfTurns, find_from, find_key, find_keys};
 pub use leaf_rows::{Behind, Portion, give_rows, portion_in, portion_toward};
 pub use leaf_ways::{descend_to_leaf, descend_to_page, end_at_leaf, set_off, set_off_keeping};

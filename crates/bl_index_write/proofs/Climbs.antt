@@ -9,7 +9,7 @@ use Rattle.atomic_table.specs.declared.shared.Seat.{Seat}
 use Rattle.bl_proc_steps.specs.declared.acts.Seen.{Seen}
 use Rattle.bl_proc_steps.specs.declared.acts.Seen.TheVariants as seen
 use Rattle.bl_answers.specs.declared.answers.Answer.{Answer}
-use Rattle.bl_answers.specs.declared.answers.Answer.TheVariants.{Op, Post as PostAnswer, InsertPost as Answered}
+use Rattle.bl_answers.specs.declared.answers.Answer.TheVariants.{Op, InsertPost as Answered}
 use Rattle.bl_answers.specs.declared.answers.Hint.{Hint}
 use Rattle.bl_answers.specs.declared.answers.Hint.TheVariants as hint
 use Rattle.bl_answers.specs.declared.answers.Posted.{Posted}
@@ -34,7 +34,6 @@ use mathlib.Core.HLevel.{is_prop→PathP}
 use Rattle.bl_proc_writes.specs.declared.post.Post.{Post}
 use Rattle.bl_proc_writes.specs.declared.post.PostStage.TheVariants as post
 use Rattle.bl_proc_writes.specs.Levels.{IsBelowTop, IsBelowTop-prop, MayReply}
-use Rattle.bl_proc_writes.specs.Posts.{posted_answer}
 use Rattle.bl_proc_writes.specs.Stands.{Stands, Stands-prop}
 use Rattle.bl_proc_writes.specs.InsertPosts.{posted_as, climbed_answer, climb_answer_in, IsLast}
 use Rattle.bl_answers.specs.Hints.{left_hint}
@@ -147,14 +146,6 @@ ends_climb key placing path r state is = subst (λ (z : Proc). EndsAs z (climbin
   over = climb_goes (record { key = key; placing = placing; path = path; stage = climb.Ending r; stands = tt }) seen.Done refl tt;
   ended = (refl, refl, refl, refl);
 })
-
--- what is told of its last post
-pub told_posted : (level : ℕ) (r : PostReply) (what : Posted) (h : Option Hint) → posted_answer level r ≡ PostAnswer what h → what ≡ posted_as r
-told_posted level (listed.Done s) what h e = cc
-told_posted level listed.Already what h e = cc
-told_posted level listed.Stale what h e = cc
-told_posted level listed.NoRoom what h e = cc
-told_posted level listed.TooTall what h e = cc
 
 pub none_left : (level key : ℕ) (what : Posted) → (what ≡ posted.NoRoom → ⊥) → left_hint level key what ≡ None
 none_left level key posted.Done not = refl

@@ -1,33 +1,16 @@
 -- What a scan promises that lists so many rows at most.
-use Rattle.std.specs.Prelude.{◌≡◌, ℕ, ◌-◌, ◌<◌, ◌≤◌, ◌++◌, List, [], ◌∷◌, Option, Some, None, Result, IfSome, IfOk, OnErr, length, take, drop}
+use Rattle.std.specs.Prelude.{◌≡◌, ℕ, ◌-◌, ◌<◌, ◌≤◌, ◌++◌, List, Option, Some, Result, IfSome, IfOk, OnErr, length, take, drop}
 use Rattle.bl_page.specs.declared.page.Page.{Page}
-use Rattle.bl_model.specs.declared.operation.Entry.{Entry}
 use Rattle.bl_model.specs.declared.operation.Op.TheVariants.{Part}
 use Rattle.bl_model.specs.declared.operation.Reply.{Reply}
 use Rattle.bl_proc.specs.declared.parts.Direction.TheVariants.{Up}
 use Rattle.bl_claims.specs.Trails.{Trail}
-use Rattle.bl_index_read.specs.LeafRows.{IsBelow, IsOver}
+use Rattle.bl_index_read.specs.LeafRows.{first_key}
 use Rattle.bl_index_read.specs.Searching.{Finds}
 use Rattle.bl_index_range.specs.Parts.{rows_below}
+use Rattle.bl_index.specs.Limits.{IsNext, AreWanted}
 use Rattle.bl_map_calls.specs.Works.{Searches}
 use Rattle.bl_map_calls.specs.Scans.{HasScanned}
-
--- the key of the first of these rows, if there is one
-abbrev pub first_key : List (ℕ × ℕ) → Option ℕ
-first_key [] = None
-first_key (row ∷ rows) = Some row.0
-
--- The next scan begins there: at the first row that was met and not listed; where there is none, at the key to which the scan has come; and
--- nowhere, if nothing of it is left from there on.
-abbrev pub IsNext : Option ℕ → Option ℕ → Option ℕ → Option ℕ → Type 0
-IsNext (Some left) to upto next = next ≡ Some left
-IsNext None to upto (Some next) = (upto ≡ Some next) × IsBelow to next
-IsNext None to upto None = IsOver to upto
-
--- Before each of these parts fewer rows were met than so many.
-abbrev pub AreWanted : Option ℕ → ℕ → List Entry → Type 0
-AreWanted to most [] = Unit {0}
-AreWanted to most (part ∷ parts) = (0 < most) × AreWanted to (most - length (rows_below to part.reply)) parts
 
 -- Of the rows that a scan has met the first stand behind those of before, so many at most. It has made no part that was not wanted for them, has
 -- done nothing but search for its parts, and says where the next scan begins, with fewer rows only that there is none. Else it has come to
@@ -40,7 +23,7 @@ pub record ScannedAtMost {E : Type 0} (first : List (Option Page)) (pages pass f
   pub mid : Trail
   pub scanned : HasScanned first pass Up from to upto rows old mid
   pub searches : Searches first pages pass scanned.parts old mid
-  pub wanted : AreWanted to most scanned.parts
-  pub next : IfOk result (λ next. IsNext (first_key (drop most rows)) to upto next × IfSome next (λ _. most ≤ length rows) × (new ≡ mid))
+  pub wanted : AreWanted Up to most scanned.parts
+  pub next : IfOk result (λ next. IsNext Up (first_key (drop most rows)) to upto next × IfSome next (λ _. most ≤ length rows) × (new ≡ mid))
   pub stopped : OnErr result ((key : ℕ) × (reply : Reply) × (upto ≡ Some key) × Finds first pages pass pages (Part key) reply mid new
       × (room < length (take (most - length rows) (rows_below to reply))))

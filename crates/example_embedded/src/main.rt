@@ -240,6 +240,21 @@ fn print(rt: &HostRuntime, seen: &Seen) -> anyhow::Result<()> {
     print_rows(rt, seen.rows.as_slice())
 }
 
+/// Prints what is found in the map that was opened from the image: how many rows, the value of key 42, and the first rows from key 80 on.
+fn print_found(rt: &HostRuntime, map: &Map, seat: Seat) -> anyhow::Result<()>
+    requires { IsSeatOf map.now seat }
+{
+    let mut handle = map.handle(seat);
+    let rows = count(rt, &mut handle);
+    if let Some(value) = value_of(rt, &mut handle, 42) {
+        println!(rt; "from the image: {rows} rows, 42 has {value}")?;
+    }
+    match first_rows(rt, rt.alloc(), &mut handle, 80, 3) {
+        Some(rows) => print_rows(rt, rows.as_slice()),
+        None => Ok(()),
+    }
+}
+
 fn main(rt: HostRuntime) -> anyhow::Result<()> {
     let Some((map, seats)) = opened(rt.alloc()) else {
         anyhow::bail!("out of memory");
@@ -251,13 +266,5 @@ fn main(rt: HostRuntime) -> anyhow::Result<()> {
     let Some((map, seat)) = reopened(rt.alloc(), map, seats) else {
         anyhow::bail!("no map from the image");
     };
-    let mut handle = map.handle(seat);
-    let rows = count(&rt, &mut handle);
-    if let Some(value) = value_of(&rt, &mut handle, 42) {
-        println!(rt; "from the image: {rows} rows, 42 has {value}")?;
-    }
-    if let Some(rows) = first_rows(&rt, rt.alloc(), &mut handle, 80, 3) {
-        print_rows(&rt, rows.as_slice())?;
-    }
-    Ok(())
+    print_found(&rt, &map, seat)
 }

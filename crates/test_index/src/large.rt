@@ -1,27 +1,11 @@
 //! Indexes of more than 65,536 pages.
 
-ghost use Rattle.std.specs.Prelude.{IfSome};
-ghost use Rattle.bl_index.specs.Calls.{IsPassOf};
-
-use bl_index::{Config, Index, KeyReply, OpenFault, Pass};
-use std::alloc::Global;
-
-/// A large index, and its only pass.
-fn opened(alloc: Global, pages: u32) -> Option<(Index, Pass)>
-    ensures { IfSome result (λ t. IsPassOf t.0 t.1) }
-{
-    match Index::open_large(alloc, Config { pages, passes: 1 }) {
-        Ok((index, mut passes)) => {
-            let pass = passes.pop()?;
-            Some((index, pass))
-        }
-        Err(_) => None,
-    }
-}
+use crate::calls::alone;
+use bl_index::{Config, Index, KeyReply, OpenFault};
 
 #[test]
 fn an_index_has_more_pages_than_65_536(rt: HostRuntime) {
-    let (index, mut pass) = opened(rt.alloc(), 65_537).expect(&rt, "it is opened");
+    let (index, mut pass) = alone(rt.alloc(), 65_537).expect(&rt, "it is opened");
     let none = index.find(&mut pass, 7, 9);
     assert!(rt; none == Ok(KeyReply::Absent));
 }

@@ -2,7 +2,7 @@
 
 ghost use Rattle.bl_index.specs.Calls.{IsPassOf};
 
-use crate::calls::{opened, two_passes};
+use crate::calls::{alone, two_passes};
 use crate::scans::fifteen_rows;
 use bl_index::{Index, KeyReply, Pass, RangeFault, RangeLimits};
 use std::alloc::Global;
@@ -16,85 +16,60 @@ const LIMITS: RangeLimits = RangeLimits {
     rounds: 3,
 };
 
-// Keys 1 to 8 are in one leaf and 9 to 15 in another. Where nobody writes, no leaf is read again.
-#[test]
-fn a_range_has_the_rows_between_two_keys(rt: HostRuntime) -> Result<(), Fail> {
-    let (index, _none, mut pass) = opened(rt.alloc(), 8, 1).ok_or("no index")?;
-    fifteen_rows(&rt, &index, &mut pass);
-    let (mut kept, mut rows) = (Vec::new(rt.alloc()), Vec::new(rt.alloc()));
-    let all = index.range_into(&mut pass, 0, None, LIMITS, &mut kept, &mut rows);
-    assert!(rt; all == Ok(0) && rows.len() == 15);
-    assert!(rt;
-        rows[0] == (1, 10) && rows[7] == (8, 80) && rows[8] == (9, 90) && rows[14] == (15, 150)
-    );
-    rows.clear();
-    let some = index.range_into(&mut pass, 7, Some(11), LIMITS, &mut kept, &mut rows);
-    assert!(rt;
-        some == Ok(0) && rows.as_slice() == [(7, 70), (8, 80), (9, 90), (10, 100)].as_slice()
-    );
-    let more = index.range_into(&mut pass, 3, Some(5), LIMITS, &mut kept, &mut rows);
-    assert!(rt; more == Ok(0) && rows.len() == 6 && rows[3] == (10, 100));
-    assert!(rt; rows[4] == (3, 30) && rows[5] == (4, 40));
-    Ok(())
-}
-
-// Behind the last key there is nothing, nor between two keys that are neighbours.
-#[test]
-fn a_range_may_have_no_row(rt: HostRuntime) -> Result<(), Fail> {
-    let (index, _none, mut pass) = opened(rt.alloc(), 8, 1).ok_or("no index")?;
-    let (mut kept, mut rows) = (Vec::new(rt.alloc()), Vec::new(rt.alloc()));
-    let none = index.range_into(&mut pass, 0, None, LIMITS, &mut kept, &mut rows);
-    assert!(rt; none == Ok(0) && rows.is_empty());
-    fifteen_rows(&rt, &index, &mut pass);
-    let behind = index.range_into(&mut pass, 16, None, LIMITS, &mut kept, &mut rows);
-    assert!(rt; behind == Ok(0) && rows.is_empty());
-    let (reply, _hint) = index.delete(&rt, &mut pass, 5);
-    assert!(rt; reply == KeyReply::Deleted(50));
-    let between = index.range_into(&mut pass, 5, Some(6), LIMITS, &mut kept, &mut rows);
-    assert!(rt; between == Ok(0) && rows.is_empty());
-    Ok(())
-}
-
-// The upper leaf takes three pages from the anchor: a range that begins there and may get two leaves the rows as they were.
-#[test]
-fn a_range_out_of_turns_leaves_the_rows(rt: HostRuntime) -> Result<(), Fail> {
-    let (index, _none, mut pass) = opened(rt.alloc(), 8, 1).ok_or("no index")?;
-    fifteen_rows(&rt, &index, &mut pass);
-    let (mut kept, mut rows) = (Vec::new(rt.alloc()), Vec::new(rt.alloc()));
-    let first = index.range_into(&mut pass, 14, None, LIMITS, &mut kept, &mut rows);
-    assert!(rt; first == Ok(0) && rows.as_slice() == [(14, 140), (15, 150)].as_slice());
+/// Keys 1 to 8 are in one leaf and 9 to 15 in another. The upper one takes three pages from the anchor: a range that begins there and may get two
+/// leaves the rows as they were.
+fn turns_run_out<R: Wait>(rt: &R, alloc: Global, index: &Index, pass: &mut Pass) -> bool
+    requires { IsPassOf index.now pass.old }
+{
+    fifteen_rows(rt, index, pass);
+    let (mut kept, mut rows) = (Vec::new(alloc), Vec::new(alloc));
+    let first = index.range_into(pass, 14, None, LIMITS, &mut kept, &mut rows);
     let few = RangeLimits {
         turns: 2,
         rounds: 3,
     };
-    let fault = index.range_into(&mut pass, 9, None, few, &mut kept, &mut rows);
-    assert!(rt;
-        fault == Err(RangeFault::OutOfTurns) && rows.as_slice() == [(14, 140), (15, 150)].as_slice()
-    );
-    Ok(())
+    let fault = index.range_into(pass, 9, None, few, &mut kept, &mut rows);
+    first == Ok(0)
+        && fault == Err(RangeFault::OutOfTurns)
+        && rows.as_slice() == [(14, 140), (15, 150)].as_slice()
 }
 
-// Whichever allocation is refused, the rows are as they were, or all are there.
 #[test]
-fn a_range_without_room_leaves_the_rows(rt: HostRuntime) -> Result<(), Fail> {
-    let Some((index, _none, mut pass)) = opened(rt.alloc(), 8, 1) else {
-        return Ok(());
+fn a_range_out_of_turns_leaves_the_rows(rt: HostRuntime) {
+    let is_so = match alone(rt.alloc(), 8) {
+        Some((index, mut pass)) => turns_run_out(&rt, rt.alloc(), &index, &mut pass),
+        None => false,
     };
-    fifteen_rows(&rt, &index, &mut pass);
-    let (mut kept, mut rows) = (Vec::new(rt.alloc()), Vec::new(rt.alloc()));
+    assert!(rt; is_so);
+}
+
+/// Whichever allocation is refused, the rows are as they were, or all are there.
+fn room_runs_out<R: Wait>(rt: &R, alloc: Global, index: &Index, pass: &mut Pass) -> bool
+    requires { IsPassOf index.now pass.old }
+{
+    fifteen_rows(rt, index, pass);
+    let (mut kept, mut rows) = (Vec::new(alloc), Vec::new(alloc));
     if rows.push((7, 7)).is_err() {
-        return Ok(());
+        return true;
     }
-    let first = index.range_into(&mut pass, 2, None, LIMITS, &mut kept, &mut rows);
-    if first.is_err() {
-        assert!(rt; first == Err(RangeFault::Memory) && rows.as_slice() == [(7, 7)].as_slice());
-        let second = index.range_into(&mut pass, 2, None, LIMITS, &mut kept, &mut rows);
-        assert!(rt; second == Ok(0));
+    if let Err(fault) = index.range_into(pass, 2, None, LIMITS, &mut kept, &mut rows) {
+        if fault != RangeFault::Memory
+            || rows.as_slice() != [(7, 7)].as_slice()
+            || index.range_into(pass, 2, None, LIMITS, &mut kept, &mut rows) != Ok(0)
+        {
+            return false;
+        }
     }
-    assert!(rt;
-        rows.len() == 15 && rows[0] == (7, 7) && rows[1] == (2, 20) && rows[14] == (15, 150)
-    );
-    Ok(())
+    rows.len() == 15 && rows[0] == (7, 7) && rows[1] == (2, 20) && rows[14] == (15, 150)
+}
+
+#[test]
+fn a_range_without_room_leaves_the_rows(rt: HostRuntime) {
+    let is_so = match alone(rt.alloc(), 8) {
+        Some((index, mut pass)) => room_runs_out(&rt, rt.alloc(), &index, &mut pass),
+        None => true,
+    };
+    assert!(rt; is_so);
 }
 
 /// How many keys a writer goes over, each in a leaf of its own, how far they are apart, and how often it writes one.

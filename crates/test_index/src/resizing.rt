@@ -1,12 +1,11 @@
-//! An index goes on with more pages, by itself and from an image.
+//! An index goes on with more pages from its image.
 
 ghost use Rattle.std.specs.Prelude.{All, IfSome};
 ghost use Rattle.bl_index.specs.Calls.{IsPassOf};
 
-use crate::calls::opened;
-use crate::closings::together;
+use crate::calls::alone;
 use bl_check::Quiet;
-use bl_index::{Index, KeyReply, OpenFault, Pass, ResizeFault, Unresized, lives_are_one_history};
+use bl_index::{Index, KeyReply, OpenFault, Pass, lives_are_one_history};
 use std::alloc::Global;
 use std::sync::Wait;
 
@@ -39,27 +38,6 @@ fn found(index: &Index, pass: &mut Pass, keys: u64) -> u64
     found
 }
 
-/// An index of 16 pages that is full, its passes, and the key for which there was no room.
-fn full<R: Wait>(rt: &R, alloc: Global, passes: u32) -> Option<(Index, Vec<Pass>, u64)>
-    ensures { IfSome result (λ t. All (IsPassOf t.0) t.1.items) }
-{
-    let (index, rest, mut last) = opened(alloc, 16, passes)?;
-    let key = fill(rt, &index, &mut last);
-    let all = together(&index, rest, last)?;
-    Some((index, all, key))
-}
-
-/// The index with 64 pages, and its passes.
-fn larger(alloc: Global, index: Index, passes: Vec<Pass>) -> Option<(Index, Vec<Pass>)>
-    requires { All (IsPassOf index) passes.items }
-    ensures { IfSome result (λ t. All (IsPassOf t.0) t.1.items) }
-{
-    match index.resize(alloc, passes, 64) {
-        Ok((index, passes)) => Some((index, passes)),
-        Err(_) => None,
-    }
-}
-
 /// How many passes there are, whether all rows are there, and what an insertion of the key answers for which there was no room.
 fn counts<R: Wait>(
     rt: &R,
@@ -77,60 +55,12 @@ fn counts<R: Wait>(
     Some((many, all, reply))
 }
 
-/// The same of an index of 16 pages and three passes that goes on with 64, and its pages.
-fn resized<R: Wait>(rt: &R, alloc: Global) -> Option<(u32, (usize, bool, KeyReply))> {
-    let (index, passes, full_at) = full(rt, alloc, 3)?;
-    let (index, passes) = larger(alloc, index, passes)?;
-    let seen = counts(rt, &index, passes, full_at)?;
-    Some((index.patience(), seen))
-}
-
-#[test]
-fn a_full_index_goes_on_with_more_pages(rt: HostRuntime) {
-    lives_are_one_history();
-    let seen = resized(&rt, rt.alloc());
-    assert!(rt; seen == Some((64, (3, true, KeyReply::Inserted))));
-}
-
-/// The index and its passes that are kept where it is not resized, and why.
-fn kept(
-    alloc: Global,
-    index: Index,
-    passes: Vec<Pass>,
-    pages: u32,
-) -> Option<(Index, Vec<Pass>, ResizeFault)>
-    requires { All (IsPassOf index) passes.items }
-    ensures { IfSome result (λ t. All (IsPassOf t.0) t.1.items) }
-{
-    match index.resize(alloc, passes, pages) {
-        Err(Unresized::Kept(index, passes, fault)) => Some((index, passes, fault)),
-        Err(Unresized::Closed(_)) => None,
-        Ok(_) => None,
-    }
-}
-
-/// Why an index is not resized to 15 pages, to more than 2^28, and without its last pass, and whether its rows are there after that.
-fn refusals<R: Wait>(rt: &R, alloc: Global) -> Option<([ResizeFault; 3], bool)> {
-    let (index, passes, mut last) = opened(alloc, 16, 2)?;
-    let full_at = fill(rt, &index, &mut last);
-    let (index, passes, few) = kept(alloc, index, passes, 15)?;
-    let (index, passes, many) = kept(alloc, index, passes, 268_435_457)?;
-    let (index, mut passes, missing) = kept(alloc, index, passes, 64)?;
-    let mut pass = passes.pop()?;
-    let there = found(&index, &mut pass, full_at) == full_at;
-    Some(([few, many, missing], there))
-}
-
-#[test]
-fn an_index_is_kept_that_is_not_resized(rt: HostRuntime) {
-    let seen = refusals(&rt, rt.alloc());
-    let wanted = [ResizeFault::Pages, ResizeFault::Pages, ResizeFault::Pass];
-    assert!(rt; seen == Some((wanted, true)));
-}
-
-/// The image that a full index leaves, and the key for which there was no room.
+/// The image that a full index of 16 pages leaves, and the key for which there was no room.
 fn image_of<R: Wait>(rt: &R, alloc: Global) -> Option<(Quiet, u64)> {
-    let (index, passes, full_at) = full(rt, alloc, 1)?;
+    let (index, mut pass) = alone(alloc, 16)?;
+    let full_at = fill(rt, &index, &mut pass);
+    let mut passes = Vec::new(alloc);
+    passes.push(pass).ok()?;
     match index.close(alloc, passes) {
         Ok(quiet) => Some((quiet, full_at)),
         Err(_) => None,
@@ -157,6 +87,8 @@ fn opened_larger<R: Wait>(rt: &R, alloc: Global) -> Option<(u32, (usize, bool, K
 
 #[test]
 fn an_image_is_opened_with_more_pages(rt: HostRuntime) {
+    // The law by which the history goes on.
+    lives_are_one_history();
     let seen = opened_larger(&rt, rt.alloc());
     assert!(rt; seen == Some((64, (2, true, KeyReply::Inserted))));
 }

@@ -3,6 +3,6 @@
 //! beside a write that holds a leaf. They go by the events of a process, which a caller of `bl_index` does not see.
 
 pub(crate) mod begun;
-mod searching;
-mod turning;
+pub(crate) mod searching;
+pub(crate) mod turning;
 mod waiting;

@@ -76,7 +76,6 @@ fn race_of(word: &str) -> Option<Race> {
         "fill-and-scan" => Some(Race::FillAndScan),
         "shrink" => Some(Race::Shrink),
         "clear" => Some(Race::Clear),
-        "count-up" => Some(Race::CountUp),
         _ => None,
     }
 }

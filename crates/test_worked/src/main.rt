@@ -28,7 +28,7 @@
 //! | `image`, `page NUMBER` | how many bytes the image has, and what the checker says of them; the words of a page in it |
 //! | `rows` | how many rows the checker finds in the image |
 //! | `reopen PASSES` | an index that begins with the image, and with so many passes |
-//! | `fill`, `fill-and-scan`, `shrink`, `clear`, `count-up` | a race of the first four passes on keys below 80,000, each in a thread of its own: what they were answered in all, and how many keys the fifth pass finds at the end. They insert each key that is not there (while the fifth pass scans); delete all but each tenth of their keys; delete each key and search for it; put the value of key 79,999 up by one by 20,000 changes each, trying again where another was first |
+//! | `fill`, `fill-and-scan`, `shrink`, `clear` | a race of the first four passes on keys below 80,000, each in a thread of its own: what they were answered in all, and how many keys the fifth pass finds at the end. They insert each key that is not there (while the fifth pass scans); delete all but each tenth of their keys; delete each key and search for it |
 #![tactic(auto)]
 
 mod answers;

@@ -2,7 +2,7 @@
 //! that deletions and compressions give, so that pages are merged and evened out under the searches of the others, and find the
 //! keys that they keep; they insert the deleted keys again, while a fifth thread scans the whole map again and again: the keys
 //! rise, and the kept ones are all there; or all four delete each key and search for it, and their replies are counted against
-//! what any order allows; or all four count one key up. What is counted is the same whatever the schedule.
+//! what any order allows. What is counted is the same whatever the schedule.
 //!
 //! No order can answer otherwise, by the contracts of the calls: the run shows that the compiled code keeps them.
 
@@ -24,9 +24,6 @@ const ROWS: u64 = 20_000;
 /// How many threads there are.
 const THREADS: u64 = 4;
 
-/// The last key of all threads.
-const LAST: u64 = THREADS * ROWS - 1;
-
 /// Of so many rows of a thread the first is kept while the tree shrinks.
 const KEPT: u64 = 10;
 
@@ -38,7 +35,6 @@ const SCANS: u32 = 30;
 struct Counts {
     inserted: AtomicU64,
     deleted: AtomicU64,
-    changed: AtomicU64,
     absent: AtomicU64,
     merged: AtomicU64,
     scanned: AtomicU64,
@@ -51,7 +47,6 @@ impl Counts {
         Counts {
             inserted: AtomicU64::new(0),
             deleted: AtomicU64::new(0),
-            changed: AtomicU64::new(0),
             absent: AtomicU64::new(0),
             merged: AtomicU64::new(0),
             scanned: AtomicU64::new(0),
@@ -205,39 +200,6 @@ fn clear<R: Wait>(rt: &R, index: &Index, pass: &mut Pass, counts: &Counts)
     }
 }
 
-// Puts the last key's value up by one, trying again with the value that the key has. What the value is then.
-fn count_one<R: Wait>(rt: &R, index: &Index, pass: &mut Pass, value: u64, counts: &Counts) -> u64
-    requires { IsPassOf index.now pass.old }
-    ensures { IsPassOf index.now pass.new }
-{
-    let mut value = value;
-    for _ in rt.forever() {
-        let more = value.wrapping_add(1);
-        let reply = index.change(rt, pass, LAST, value, more);
-        sweep(index, pass);
-        match reply {
-            KeyReply::Changed => {
-                count(&counts.changed);
-                return more;
-            }
-            KeyReply::Differs(other) => value = other,
-            _ => count(&counts.wrong),
-        }
-    }
-    unreachable!()
-}
-
-// Counts the last key up.
-fn count_up<R: Wait>(rt: &R, index: &Index, pass: &mut Pass, counts: &Counts)
-    requires { IsPassOf index.now pass.old }
-    ensures { IsPassOf index.now pass.new }
-{
-    let mut value = 0;
-    for _row in 0..ROWS {
-        value = count_one(rt, index, pass, value, counts);
-    }
-}
-
 // How many keys are found with the value that was inserted.
 fn found<R: Wait>(rt: &R, index: &Index, pass: &mut Pass) -> u64
     requires { IsPassOf index.now pass.old }
@@ -261,7 +223,6 @@ pub enum Race {
     FillAndScan,
     Shrink,
     Clear,
-    CountUp,
 }
 
 // The first four passes work, each in a thread of its own, and the fifth one scans where it is asked to.
@@ -287,7 +248,6 @@ fn work<R: Threads + Wait + Sync>(
                 Race::Fill | Race::FillAndScan => fill(rt, index, pass, place, counts),
                 Race::Shrink => shrink(rt, index, pass, place, counts),
                 Race::Clear => clear(rt, index, pass, counts),
-                Race::CountUp => count_up(rt, index, pass, counts),
             }
         },
     );
@@ -306,7 +266,6 @@ fn observed(alloc: Global, counts: &Counts) -> Result<Vec<u8>, AllocError> {
     let mut text = Vec::new(alloc);
     push_count(&mut text, b"inserted ", &counts.inserted)?;
     push_count(&mut text, b"deleted ", &counts.deleted)?;
-    push_count(&mut text, b"changed ", &counts.changed)?;
     push_count(&mut text, b" absent ", &counts.absent)?;
     push_count(&mut text, b" scanned ", &counts.scanned)?;
     push_count(&mut text, b" wrong ", &counts.wrong)?;

@@ -8,20 +8,24 @@ use std::thread;
 
 type Map = BptreeMap<u64, u64>;
 
-fn key_of(row: u64) -> u64 {
-    row.wrapping_mul(0x9e37_79b9_7f4a_7c15)
+const WIDTH: u64 = 100;
+
+/// A number that looks random, another one for each: the key of a row, and what is drawn next.
+fn scattered(number: u64) -> u64 {
+    let first = number.wrapping_add(1).wrapping_mul(0x9e37_79b9_7f4a_7c15);
+    let second = (first ^ (first >> 30)).wrapping_mul(0xbf58_476d_1ce4_e5b9);
+    let third = (second ^ (second >> 27)).wrapping_mul(0x94d0_49bb_1331_11eb);
+    third ^ (third >> 31)
 }
 
-fn after(seed: u64) -> u64 {
-    seed.wrapping_mul(6_364_136_223_846_793_005).wrapping_add(1_442_695_040_888_963_407)
+/// One of the rows.
+fn row_of(drawn: u64, rows: u64) -> u64 {
+    (drawn >> 8).checked_rem(rows).unwrap_or(0)
 }
 
-fn row_of(seed: u64, rows: u64) -> u64 {
-    if rows == 0 { 0 } else { (seed >> 24) % rows }
-}
-
+/// How far the ends of a scan of about 100 rows are apart.
 fn width(rows: u64) -> u64 {
-    if rows <= 100 { u64::MAX } else { u64::MAX / (rows / 100) }
+    u64::MAX / WIDTH / (rows / WIDTH + 1) * WIDTH
 }
 
 fn insert(map: &Map, key: u64, value: u64) -> bool {
@@ -45,41 +49,42 @@ fn find(map: &Map, key: u64) -> Option<u64> {
 }
 
 fn fill(map: &Map, place: u64, rows: u64, threads: u64) -> u64 {
-    (place..rows).step_by(threads as usize).filter(|row| insert(map, key_of(*row), *row)).count() as u64
+    (place..rows).step_by(threads as usize).filter(|row| insert(map, scattered(*row), *row)).count() as u64
 }
 
 fn search(map: &Map, place: u64, rows: u64, finds: u64) -> u64 {
-    let (mut done, mut seed) = (0, place);
+    let (mut done, mut seed) = (0, scattered(place));
     for _ in 0..finds {
-        seed = after(seed);
-        done += find(map, key_of(row_of(seed, rows))).is_some() as u64;
+        seed = scattered(seed);
+        done += find(map, scattered(row_of(seed, rows))).is_some() as u64;
     }
     done
 }
 
 fn mix(map: &Map, place: u64, rows: u64, mixed: u64) -> u64 {
-    let mut seed = place;
+    let mut seed = scattered(place);
     for round in 0..mixed {
         if round % 4 != 3 {
-            seed = after(seed);
+            seed = scattered(seed);
         }
         let row = row_of(seed, rows);
         match round % 4 {
-            2 => delete(map, key_of(row)),
-            3 => drop(insert(map, key_of(row), row)),
-            _ => drop(std::hint::black_box(find(map, key_of(row)))),
+            2 => delete(map, scattered(row)),
+            3 => drop(insert(map, scattered(row), row)),
+            _ => drop(std::hint::black_box(find(map, scattered(row)))),
         }
     }
     mixed
 }
 
 fn scan(map: &Map, place: u64, rows: u64, scans: u64) -> u64 {
-    let (mut done, mut seed, mut listed) = (0, place, Vec::new());
+    let (mut done, mut seed, mut listed) = (0, scattered(place), Vec::new());
     for _ in 0..scans {
-        seed = after(seed);
+        seed = scattered(seed);
         listed.clear();
-        let end = seed.saturating_add(width(rows));
-        listed.extend(map.read().range(seed..end).map(|(key, value)| (*key, *value)));
+        let from = scattered(row_of(seed, rows));
+        let end = from.saturating_add(width(rows));
+        listed.extend(map.read().range(from..end).map(|(key, value)| (*key, *value)));
         done += listed.len() as u64;
     }
     done

@@ -1,25 +1,36 @@
 //! A search that has a page in mind stands still while that page is merged away and sweeps go on beside it.
 
-use crate::stops::begun::{fill, opened};
-use bl_index::KeyReply;
+ghost use Rattle.bl_index.specs.Calls.{IsPassOf};
+
+use crate::stops::begun::fill;
+use bl_index::{Index, KeyReply, Pass};
 use bl_index_read::{Sought, find_from, set_off};
 use bl_proc::Squeezed;
-use std::test::Fail;
+use std::sync::Wait;
 
-// It finds its key in the page into which the other one was merged, and that one is not released before it has ended.
-#[test]
-fn a_search_stands_still_beside_a_merge(rt: HostRuntime) -> Result<(), Fail> {
-    let (index, mut first, mut second, third) = opened(rt.alloc()).ok_or("no index")?;
-    assert!(rt; fill(&rt, &index, &mut first));
-    let (reply, hint) = index.delete(&rt, &mut first, 9);
-    assert!(rt; reply == KeyReply::Deleted(90));
-    assert!(rt; index.sweep(&mut first) == 18);
-    let hint = hint.ok_or("no hint")?;
+/// It finds its key in the page into which the other one was merged, and that one is not released before it has ended.
+pub(crate) fn search_stands_still<R: Wait>(
+    rt: &R,
+    index: &Index,
+    first: &mut Pass,
+    second: &mut Pass,
+    third: Pass,
+) -> bool
+    requires { IsPassOf index.now first.old × IsPassOf index.now second.old × IsPassOf index.now third }
+{
+    if !fill(rt, index, first) {
+        return false;
+    }
+    let (KeyReply::Deleted(90), Some(hint)) = index.delete(rt, first, 9) else {
+        return false;
+    };
+    let swept = index.sweep(first);
     let mut hand = third.into_hand();
     let way = set_off(index.tree(), &mut hand, Sought::Value, 12, Some(2));
-    assert!(rt; index.compress(&rt, &mut second, hint) == (Squeezed::Merged, None));
-    assert!(rt; index.sweep(&mut second) == 0);
-    assert!(rt; find_from(index.tree(), &mut hand, 12, way, 2) == Ok(KeyReply::Found(120)));
-    assert!(rt; index.sweep(&mut second) == 4);
-    Ok(())
+    let merged = index.compress(rt, second, hint);
+    let kept = index.sweep(second);
+    let found = find_from(index.tree(), &mut hand, 12, way, 2);
+    merged == (Squeezed::Merged, None)
+        && found == Ok(KeyReply::Found(120))
+        && [swept, kept, index.sweep(second)] == [18, 0, 4]
 }

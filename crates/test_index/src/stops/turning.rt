@@ -1,90 +1,118 @@
 //! Calls that may not wait, of one index on one thread: each is done, or has not been done, and nothing of it is left.
 
-use crate::stops::begun::{fill, opened};
-use bl_index::{Hint, KeyReply, KeyWrite, Level, Lowered, Posted, Squeezed};
+ghost use Rattle.bl_index.specs.Calls.{IsPassOf};
+
+use crate::stops::begun::fill;
+use bl_index::{Hint, Index, KeyReply, KeyWrite, Level, Lowered, Pass, Posted, Squeezed};
 use bl_index_write::{begin_write, end_write};
-use std::test::Fail;
+use std::sync::Wait;
 
-// An insertion holds the leaf. A deletion is told that it has not been done, and nothing stays underway: it begins anew.
-#[test]
-fn a_write_that_may_not_wait_is_done_or_not(rt: HostRuntime) -> Result<(), Fail> {
-    let (index, first, mut second, mut third) = opened(rt.alloc()).ok_or("no index")?;
-    let tree = index.tree();
-    let mut one = first.into_hand();
-    let insert = KeyWrite::Insert(50);
-    let (at, glance) = begin_write(tree, &rt, &mut one, 5, insert);
-    assert!(rt;
-        index
-            .try_write(&mut second, 5, KeyWrite::Delete, 256)
-            .is_none()
-    );
-    assert!(rt; index.find(&mut third, 5, 8) == Ok(KeyReply::Absent));
-    let inserted = end_write(tree, &mut one, at, 5, insert, glance);
-    assert!(rt; inserted == (KeyReply::Inserted, None));
-    assert!(rt; index.find(&mut third, 5, 8) == Ok(KeyReply::Found(50)));
-    let deleted = index.try_write(&mut second, 5, KeyWrite::Delete, 256);
-    assert!(rt; deleted == Some((KeyReply::Deleted(50), None)));
-    Ok(())
+/// Where nobody is met, a write is done.
+pub(crate) fn write_meets_nobody(index: &Index, pass: &mut Pass) -> bool
+    requires { IsPassOf index.now pass.old }
+{
+    index.try_write(pass, 5, KeyWrite::Insert(50), 8) == Some((KeyReply::Inserted, None))
 }
 
-#[test]
-fn a_write_that_meets_nobody_is_done(rt: HostRuntime) -> Result<(), Fail> {
-    let (index, mut first, _, _) = opened(rt.alloc()).ok_or("no index")?;
-    let inserted = index.try_write(&mut first, 5, KeyWrite::Insert(50), 8);
-    assert!(rt; inserted == Some((KeyReply::Inserted, None)));
-    Ok(())
+/// An insertion holds the leaf. A deletion is told that it has not been done, and nothing stays underway: it begins anew.
+pub(crate) fn write_is_done_or_not<R: Wait>(
+    rt: &R,
+    index: &Index,
+    second: &mut Pass,
+    third: Pass,
+) -> bool
+    requires { IsPassOf index.now second.old × IsPassOf index.now third }
+{
+    let tree = index.tree();
+    let mut hand = third.into_hand();
+    let insert = KeyWrite::Insert(50);
+    let (at, glance) = begin_write(tree, rt, &mut hand, 5, insert);
+    let refused = index.try_write(second, 5, KeyWrite::Delete, 256);
+    let before = index.find(second, 5, 8);
+    let inserted = end_write(tree, &mut hand, at, 5, insert, glance);
+    let after = index.find(second, 5, 8);
+    refused.is_none()
+        && before == Ok(KeyReply::Absent)
+        && inserted == (KeyReply::Inserted, None)
+        && after == Ok(KeyReply::Found(50))
+        && index.try_write(second, 5, KeyWrite::Delete, 256) == Some((KeyReply::Deleted(50), None))
 }
 
-// The tree has one level: there is nothing to compress. A write that holds the only leaf is not in its way.
-#[test]
-fn a_compression_that_may_not_wait_is_alone_in_a_low_tree(rt: HostRuntime) -> Result<(), Fail> {
-    let (index, first, mut second, _) = opened(rt.alloc()).ok_or("no index")?;
+/// The tree has one level: there is nothing to compress. A write that holds the only leaf is not in its way.
+pub(crate) fn compression_is_alone<R: Wait>(
+    rt: &R,
+    index: &Index,
+    second: &mut Pass,
+    third: Pass,
+) -> bool
+    requires { IsPassOf index.now second.old × IsPassOf index.now third }
+{
     let tree = index.tree();
-    let mut one = first.into_hand();
+    let mut hand = third.into_hand();
     let insert = KeyWrite::Insert(50);
-    let (at, glance) = begin_write(tree, &rt, &mut one, 5, insert);
+    let (at, glance) = begin_write(tree, rt, &mut hand, 5, insert);
     let thin = Hint::Thin {
         level: Level::new(1),
         key: 5,
     };
-    assert!(rt; index.try_compress(&mut second, thin, 256) == Some((Squeezed::Alone, None)));
-    let inserted = end_write(tree, &mut one, at, 5, insert, glance);
-    assert!(rt; inserted == (KeyReply::Inserted, None));
-    Ok(())
+    let alone = index.try_compress(second, thin, 256);
+    let inserted = end_write(tree, &mut hand, at, 5, insert, glance);
+    alone == Some((Squeezed::Alone, None)) && inserted == (KeyReply::Inserted, None)
 }
 
-// A write holds the left one of two leaves. A compression of both is given up, and has opened their parent: it is done once the leaf is open.
-#[test]
-fn a_compression_gives_up_where_a_leaf_is_held(rt: HostRuntime) -> Result<(), Fail> {
-    let (index, mut first, mut second, third) = opened(rt.alloc()).ok_or("no index")?;
-    assert!(rt; fill(&rt, &index, &mut first));
-    let (reply, hint) = index.delete(&rt, &mut first, 9);
-    assert!(rt; reply == KeyReply::Deleted(90));
-    let thin = hint.ok_or("no hint")?;
+/// A write holds the left one of two leaves. A compression of both is given up, and has opened their parent: it is done once the leaf is open.
+fn gives_up_beside<R: Wait>(
+    rt: &R,
+    index: &Index,
+    second: &mut Pass,
+    third: Pass,
+    thin: Hint,
+) -> bool
+    requires { IsPassOf index.now second.old × IsPassOf index.now third }
+    ensures { IsPassOf index.now second.new }
+{
     let tree = index.tree();
-    let mut one = third.into_hand();
+    let mut hand = third.into_hand();
     let change = KeyWrite::Change(20, 21);
-    let (at, glance) = begin_write(tree, &rt, &mut one, 2, change);
+    let (at, glance) = begin_write(tree, rt, &mut hand, 2, change);
     let again = thin;
-    assert!(rt; index.try_compress(&mut second, thin, 256).is_none());
-    let changed = end_write(tree, &mut one, at, 2, change, glance);
-    assert!(rt; changed == (KeyReply::Changed, None));
-    assert!(rt; index.try_compress(&mut second, again, 256) == Some((Squeezed::Merged, None)));
-    assert!(rt; index.try_lower(&mut second) == Some(Lowered::Lowered));
-    Ok(())
+    let refused = index.try_compress(second, thin, 256);
+    let changed = end_write(tree, &mut hand, at, 2, change, glance);
+    refused.is_none()
+        && changed == (KeyReply::Changed, None)
+        && index.try_compress(second, again, 256) == Some((Squeezed::Merged, None))
 }
 
-// The tree has one level. A post makes the next one, and then its way begins again: it has listed nothing. The next one finds that the page
-// below has another low.
-#[test]
-fn a_post_that_may_not_wait_begins_anew_behind_a_new_level(rt: HostRuntime) -> Result<(), Fail> {
-    let (index, mut first, _, _) = opened(rt.alloc()).ok_or("no index")?;
+/// Then the tree is lowered.
+pub(crate) fn compression_gives_up<R: Wait>(
+    rt: &R,
+    index: &Index,
+    first: &mut Pass,
+    second: &mut Pass,
+    third: Pass,
+) -> bool
+    requires { IsPassOf index.now first.old × IsPassOf index.now second.old × IsPassOf index.now third }
+{
+    if !fill(rt, index, first) {
+        return false;
+    }
+    let (KeyReply::Deleted(90), Some(thin)) = index.delete(rt, first, 9) else {
+        return false;
+    };
+    gives_up_beside(rt, index, second, third, thin)
+        && index.try_lower(second) == Some(Lowered::Lowered)
+}
+
+/// The tree has one level. A post makes the next one, and then its way begins again: it has listed nothing. The next one finds that the page
+/// below has another low.
+pub(crate) fn post_begins_anew(index: &Index, pass: &mut Pass) -> bool
+    requires { IsPassOf index.now pass.old }
+{
     let post = Hint::Post {
         level: Level::new(1),
         key: 5,
     };
     let again = post;
-    assert!(rt; index.try_post(&mut first, post, 256).is_none());
-    assert!(rt; index.try_post(&mut first, again, 256) == Some((Posted::Stale, None)));
-    Ok(())
+    index.try_post(pass, post, 256).is_none()
+        && index.try_post(pass, again, 256) == Some((Posted::Stale, None))
 }

@@ -1,4 +1,4 @@
-use Rattle.test_worked.proofs.Passes.{all_begun}
+use Rattle.bl_index.proofs.Taken.{all_begun}
 use Rattle.test_worked.proofs.stage.Stage.reopen.Goals as goal
 
 pub returns-in-Ok : goal.returns-in-Ok

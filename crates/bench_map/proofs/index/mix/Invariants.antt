@@ -1,5 +1,0 @@
-use Rattle.bl_index.specs.Calls.{IsPassOf}
-use Rattle.bench_map.proofs.index.mix.Given as goal
-
-abbrev pub invariant-loop-round : goal.invariant-loop-round
-invariant-loop-round g l = IsPassOf l.index l.pass

@@ -1,5 +1,0 @@
-use Rattle.bl_index.specs.Calls.{IsPassOf}
-use Rattle.test_index.proofs.meetings.fill.Given as goal
-
-abbrev pub invariant-loop-row : goal.invariant-loop-row
-invariant-loop-row g l = IsPassOf l.index l.pass

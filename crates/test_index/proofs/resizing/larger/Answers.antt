@@ -1,5 +1,0 @@
-use Rattle.bl_index.proofs.Taken.{all_begun}
-use Rattle.test_index.proofs.resizing.larger.Goals as goal
-
-pub returns-in-Ok : goal.returns-in-Ok
-returns-in-Ok c = all_begun _ _ _ c.in-Ok.index c.in-Ok.passes.items c.in-Ok.ensures.ok.reopens.begun

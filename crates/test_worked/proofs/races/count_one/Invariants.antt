@@ -1,5 +1,0 @@
-use Rattle.bl_index.specs.Calls.{IsPassOf}
-use Rattle.test_worked.proofs.races.count_one.Given as goal
-
-abbrev pub invariant-loop : goal.invariant-loop
-invariant-loop g l = IsPassOf l.index l.pass
