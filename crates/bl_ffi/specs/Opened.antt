@@ -1,5 +1,5 @@
 -- A map is opened for C.
-use Rattle.std.specs.Prelude.{◌≡◌, ◌⊎◌, ◌<◌, ◌^◌, ℕ, zero, suc, ℤ, pos, List, Option, length}
+use Rattle.std.specs.Prelude.{◌≡◌, ◌⊎◌, ◌<◌, ◌^◌, ◌==◌, if◌then◌else◌, ℕ, ℤ, pos, List, Option, length}
 use Rattle.bl_check.specs.Faults.{AreSoundImage}
 use Rattle.bl_ffi_seats.specs.declared.seat.Seat.{Seat}
 use Rattle.bl_image.specs.Images.{IsImage}
@@ -27,8 +27,7 @@ IsNotOpened pages places code = ((code ≡ pos 5) × ((pages < 4) ⊎ (2 ^ 28 < 
 
 -- so many pages, or those that a map begins with that is to grow, where none are named
 abbrev pub or_first : ℕ → ℕ
-or_first zero = 1024
-or_first (suc n) = suc n
+or_first pages = if pages == 0 then 1024 else pages
 
 -- The places, which were closed, have the seats of one new map without rows; or none was opened, and they are as they were.
 abbrev pub Opens : ℕ → List (Option Seat) → List (Option Seat) → ℤ → Type 0

@@ -1,7 +1,8 @@
 -- What threads do at a map in rounds, between which it grows.
-use Rattle.std.specs.Prelude.{◌≡◌, ◌≢◌, ◌⊎◌, ◌*◌, ◌≤◌, ℕ, min, Bool, true, false, ◌&&◌, List, [], ◌∷◌, length, Vec}
+use Rattle.std.specs.Prelude.{◌≡◌, ◌≢◌, ◌⊎◌, ◌*◌, ◌≤◌, ℕ, min, Bool, true, false, ◌&&◌, List, [], ◌∷◌, length}
 use Rattle.bl_check.specs.declared.quiet.Quiet.{Quiet}
 use Rattle.bl_index.specs.Calls.{pages_of}
+use Rattle.bl_index.specs.Resized.{IsResizeFault}
 use Rattle.bl_index.specs.declared.config.ResizeFault.{ResizeFault}
 use Rattle.bl_index.specs.declared.index.Pass.{Pass}
 use Rattle.bl_map.specs.declared.handle.Handle.{Handle}
@@ -49,9 +50,9 @@ pub data GrowsByRounds {J : Type 0} (Does : Doing J) (most : ℕ) (first : Map) 
 pub data ComesToLast {J : Type 0} (Does : Doing J) (most : ℕ) (first : Map) (seats : List Pass) (jobs : List J) : Map → List Pass → List J → Type 0 where
   AtMost : {map : Map} {befores : List Pass} {works : List J} → GrowsByRounds Does most first seats jobs map befores works → most ≤ pages_of map.index
       → ComesToLast Does most first seats jobs map befores works
-  Refused : {map back : Map} {befores lefts : List Pass} {works rests : List J} {again : Vec Pass} {why : ResizeFault} → GrowsByRounds Does most first seats jobs map befores works
-      → MakesRound Does true map befores works false lefts rests → IsMapNotResized map lefts (larger (pages_of map.index) most) (unresized.Kept back again why)
-      → ComesToLast Does most first seats jobs back again.items rests
+  Refused : {map : Map} {befores lefts : List Pass} {works rests : List J} (why : ResizeFault) → GrowsByRounds Does most first seats jobs map befores works
+      → MakesRound Does true map befores works false lefts rests → IsResizeFault map.index lefts (larger (pages_of map.index) most) why
+      → ComesToLast Does most first seats jobs map lefts rests
 
 -- All jobs are done behind a round.
 pub record AreDone {J : Type 0} (Does : Doing J) (most : ℕ) (first : Map) (seats : List Pass) (jobs : List J) (map : Map) (lefts : List Pass) (rests : List J) : Type 0 where

@@ -29,8 +29,8 @@ fn grow_by_rounds<R: Threads + Wait + Sync, J: Job<R> + Send + Drop>(
 ) -> Result<(Map, Vec<Seat>, Vec<J>, bool), Unworked<J>>
     requires { AreSeatsOf map seats.items }
     ensures own { IfOk result (λ t. AreSeatsOf t.0 t.1.items) }
-    ensures rounds { IfOk result (λ t. EndsRounds J.Does most map.entry seats.entry.items jobs.entry.items t.3 t.0 t.1.items t.2.items) }
-    ensures fault { IfErr result (IsUnworked J.Does most map.entry seats.entry.items jobs.entry.items) }
+    ensures rounds { IfOk result (λ t. EndsRounds J.Does most map seats.items jobs.items t.3 t.0 t.1.items t.2.items) }
+    ensures fault { IfErr result (IsUnworked J.Does most map seats.items jobs.items) }
 {
     let alloc = *seats.allocator();
     let (mut map, mut seats, mut jobs) = (map, seats, jobs);
@@ -70,8 +70,8 @@ pub fn work<R: Threads + Wait + Sync, J: Job<R> + Send + Drop>(
 ) -> Result<(Map, Vec<Seat>, Vec<J>), Unworked<J>>
     requires own { AreSeatsOf map seats.items }
     ensures seats { IfOk result (λ t. AreSeatsOf t.0 t.1.items) }
-    ensures worked { IfOk result (λ t. IsWorked J.Does most map.entry seats.entry.items jobs.entry.items t.0 t.1.items t.2.items) }
-    ensures fault { IfErr result (IsUnworked J.Does most map.entry seats.entry.items jobs.entry.items) }
+    ensures worked { IfOk result (λ t. IsWorked J.Does most map seats.items jobs.items t.0 t.1.items t.2.items) }
+    ensures fault { IfErr result (IsUnworked J.Does most map seats.items jobs.items) }
 {
     let (map, mut seats, mut jobs, are_done) = grow_by_rounds(rt, map, seats, jobs, most)?;
     if are_done {
