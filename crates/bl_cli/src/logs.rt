@@ -2,7 +2,7 @@
 
 ghost use Rattle.std.specs.Prelude.{IfOk};
 ghost use Rattle.bl_serve_lines.specs.Options.{AreWithin};
-ghost use Rattle.bl_serve.specs.Origins.{HasPages};
+ghost use Rattle.bl_serve_ground.specs.Origins.{HasPages};
 
 use crate::{Counts, Output, end_serving, origin_of, output, say_counts, serve_from};
 use bl_check::Quiet;

@@ -10,7 +10,8 @@ mod logs;
 ghost use Rattle.std.specs.Prelude.{◌≤◌, ◌^◌, ℕ, List, IfOk};
 ghost use Rattle.bl_model.specs.Rows.{map_of};
 ghost use Rattle.bl_serve_lines.specs.Options.{AreWithin};
-ghost use Rattle.bl_serve.specs.Origins.{HasPages, HasRows, MayServe};
+ghost use Rattle.bl_serve_ground.specs.Origins.{HasPages, HasRows};
+ghost use Rattle.bl_serve.specs.Origins.{MayServe};
 
 use bl_check::Quiet;
 use bl_cli_commands::{

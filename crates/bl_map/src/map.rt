@@ -2,6 +2,7 @@
 
 ghost use Rattle.std.specs.Prelude.{◌≡◌, IfOk, IfErr};
 ghost use Rattle.bl_map.specs.Maps.{IsSeatOf, AreSeatsOf, IsNewHandle, IsMapOpened, IsOpenFault, IsMapReopened, IsImageFault, IsLoaded, IsLoadFault, IsClosed, IsBack, IsMapResized, IsMapNotResized};
+ghost use Rattle.bl_index.specs.Calls.{pages_of};
 ghost use Rattle.bl_map.specs.Stamps.{IsNewStamp};
 
 use crate::handle::Handle;
@@ -99,6 +100,13 @@ impl Map {
             Ok(opened) => Ok(opened),
             Err((_, why)) => Err(MapLoadFault::Open(why)),
         }
+    }
+
+    /// How many pages it has.
+    pub fn pages(&self) -> u32
+        ensures { result ≡ pages_of self.now.index }
+    {
+        self.index.patience()
     }
 
     /// The handle by which a thread works from a seat of this map.

@@ -7,24 +7,32 @@ use Rattle.bl_serve_lines.specs.declared.request.Request.{Request}
 use Rattle.bl_index.specs.declared.index.Index.{Index}
 use Rattle.bl_index.specs.declared.index.Pass.{Pass}
 use Rattle.bl_index.specs.Calls.{pages_of}
-use Rattle.bl_serve.specs.declared.ground.Ground.{Ground}
+use Rattle.bl_serve_ground.specs.declared.ground.Ground.{Ground}
 use Rattle.bl_serve.specs.Holding.{HoldsChunk, HoldsSection}
 use Rattle.bl_serve.specs.Noting.{NoteMore, StillLead}
-use Rattle.bl_serve.specs.Serving.{seen_by}
-use Rattle.bl_serve.specs.Standing.{IsAtRest, Resettles, StandsAt, index_in, map_in, sizes_in}
-use Rattle.bl_serve.proofs.Holding.{together_by_first}
+use Rattle.bl_serve_ground.specs.Together.{seen_by}
+use Rattle.bl_serve_ground.specs.Standing.{IsAtRest, Resettles, StandsAt, index_in, map_in, sizes_in}
+use Rattle.bl_serve_ground.proofs.Gathered.{together_by_first}
 use Rattle.bl_serve.proofs.Led.{HistoriesLead, leads, leads_more}
-use Rattle.bl_serve.proofs.Standing.{chunk_goes, map_kept, rests_on, stands_first}
+use Rattle.bl_serve_ground.proofs.Rests.{map_kept, some_at_least, some_at_most, stands_first}
+use Rattle.bl_serve.proofs.Standing.{chunk_goes}
 use Rattle.bl_serve.proofs.Wider.{wider_held}
 
 module _ (old : Ground) (olds : List Pass) (mid : Ground) (mids : List Pass) (new : Ground) (news : List Pass) (done : ℕ) (asked : List (Option Request)) (text : List ℕ) (rest : IsAtRest old olds) (some : 0 < length mids) (settles : Resettles old olds mid mids) (same : new ≡ mid) (h : HoldsChunk (index_in mid) done asked text mids news) where
   at : StandsAt old (sizes_in old) (seen_by olds) mid mids
   at = settles old (sizes_in old) (seen_by olds) (stands_first old olds rest)
 
+  -- as many pages as there are in the middle are within what there may be
+  low : (sizes_in old).0 ≤ pages_of (index_in mid)
+  low = subst (λ (z : ℕ × ℕ). z.0 ≤ pages_of (index_in mid)) at.sizes (some_at_least mid mids at.rests)
+
+  high : pages_of (index_in mid) ≤ (sizes_in old).1
+  high = subst (λ (z : ℕ × ℕ). pages_of (index_in mid) ≤ z.1) at.sizes (some_at_most mid mids at.rests)
+
   pub holds_behind : HoldsSection (sizes_in old) old done asked text olds new news
   holds_behind = subst (λ (z : Ground). HoldsSection (sizes_in old) old done asked text olds z news) (sym same) (record {
     more = h.more;
-    held = wider_held (sizes_in old) (pages_of (index_in mid), pages_of (index_in mid)) at.least (let a = at.rests.within in let b = at.most in omega (arith, a, b)) done asked text h.more h.held;
+    held = wider_held (sizes_in old) (pages_of (index_in mid), pages_of (index_in mid)) low high done asked text h.more h.held;
     goes = λ from its seen t. chunk_goes mid done asked text mids news some h from its seen (settles from its seen t);
   })
 

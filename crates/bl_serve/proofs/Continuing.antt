@@ -20,7 +20,7 @@ use Rattle.bl_serve_lines.proofs.Sections.{short_then}
 use Rattle.bl_serve_lines.specs.Served.Interleaves.{Done, Takes}
 use Rattle.bl_claims.specs.Trails.{Trail, history_of}
 use Rattle.bl_index.specs.declared.index.Pass.{Pass}
-use Rattle.bl_serve.specs.declared.ground.Ground.{Ground}
+use Rattle.bl_serve_ground.specs.declared.ground.Ground.{Ground}
 use Rattle.bl_serve_reading.specs.declared.section_reader.SectionEnd.{SectionEnd}
 use Rattle.bl_serve_reading.specs.declared.section_reader.SectionEnd.TheVariants.{ByLine, Rest, Finished}
 use Rattle.bl_serve_worker.specs.Answering.{IsFor, answers_text}
@@ -28,12 +28,12 @@ use Rattle.bl_serve_reading.specs.Syncs.{is_sync}
 use Rattle.bl_serve_reading.specs.Reading.{IsReadAs, bytes_of, AsksEnd, AskNoEnd, AskEndLast, ReadsLines, EndsReading}
 use Rattle.bl_serve.specs.Sections.{Held, CountsSection, end_text, rests}
 use Rattle.bl_serve.specs.Holding.{ServesSection}
-use Rattle.bl_serve.specs.Serving.{FailsSection, IsInside, seen_by}
-use Rattle.bl_serve.specs.Standing.{IsAtRest, StandsAt, sizes_in}
+use Rattle.bl_serve_ground.specs.Together.{seen_by}
+use Rattle.bl_serve.specs.Serving.{FailsSection, IsInside}
+use Rattle.bl_serve_ground.specs.Standing.{IsAtRest, StandsAt, sizes_in}
 use Rattle.bl_serve_lines.proofs.Known.{zip_append}
 use Rattle.bl_serve_worker.proofs.Lines.{history_append, zip_length, text_append}
-use Rattle.bl_serve.proofs.Standing.{stands_first}
-use Rattle.bl_serve.proofs.Wider.{wider}
+use Rattle.bl_serve_ground.proofs.Rests.{stands_first}
 use Rattle.bl_serve_reading.proofs.Cutting.{asks_none}
 use Rattle.bl_serve.proofs.Faults.{reads_of}
 use Rattle.bl_serve.proofs.Advance.{interleaves_skip}
@@ -195,7 +195,7 @@ module _ (how : Sectioning) (old : Ground) (olds : List Pass) (ground : Ground) 
 
   -- its index has no fewer pages than at the section's beginning
   as_before : (lines : List (Option Request)) (end : SectionEnd) (text' : List ℕ) (new : Ground) (news : List Pass) → ServesSection (sizes_in ground) ground now.requests lines end text' passes new news → ServesSection (sizes_in old) ground now.requests lines end text' passes new news
-  as_before lines end text' new news s = wider (sizes_in old) (sizes_in ground) place.least (let same = place.most in omega (arith, same)) ground now.requests lines end text' passes new news s
+  as_before lines end text' new news s = subst (λ (z : ℕ × ℕ). ServesSection z ground now.requests lines end text' passes new news) place.sizes s
 
   now_is : now.requests ≡ start.requests + length asked
   now_is = let a = h.counts.requests in omega (arith, a)

@@ -26,10 +26,10 @@ use Rattle.bl_serve_reading.specs.declared.section_reader.SectionEnd.{SectionEnd
 use Rattle.bl_serve_reading.specs.declared.section_reader.SectionEnd.TheVariants as section_end
 use Rattle.bl_serve_reading.specs.Reading.{ReadsLines, AskEndLast, EndsReading, IsReadAs, bytes_of}
 use Rattle.bl_serve.specs.Sections.{Held, CountsSection, end_text, rests}
-use Rattle.bl_serve.specs.declared.ground.Ground.{Ground}
+use Rattle.bl_serve_ground.specs.declared.ground.Ground.{Ground}
 use Rattle.bl_serve.specs.Holding.{ServesSection}
 use Rattle.bl_serve.specs.Serving.{FailsSection, ServedBy, IsInside}
-use Rattle.bl_serve.specs.Standing.{StandsAt, index_in}
+use Rattle.bl_serve_ground.specs.Standing.{StandsAt, index_in}
 use Rattle.bl_serve.proofs.Spelled.{lines_with}
 use Rattle.bl_serve.proofs.Advance.{Progress, add_section, serves_end, stops_inside, stops_reading, stops_writing, ends_rest, ends_finished, inside_no_end, inside_end_last, input_long}
 use Rattle.bl_serve_reading.proofs.Cutting.{asks_none}

@@ -20,9 +20,9 @@ use Rattle.bl_serve_reading.specs.declared.section_reader.SectionEnd.{SectionEnd
 use Rattle.bl_serve_reading.specs.declared.section_reader.SectionEnd.TheVariants.{ByLine, Rest, Finished}
 use Rattle.bl_serve_lines.specs.Text.{numbered}
 use Rattle.bl_serve.specs.Sections.{end_text}
-use Rattle.bl_serve.specs.declared.ground.Ground.{Ground}
+use Rattle.bl_serve_ground.specs.declared.ground.Ground.{Ground}
 use Rattle.bl_serve.specs.Holding.{HoldsChunk, HoldsSection, ServesSection}
-use Rattle.bl_serve.specs.Serving.{AreFrom, AreTogether, seen_by}
+use Rattle.bl_serve_ground.specs.Together.{AreFrom, AreTogether, seen_by}
 use Rattle.bl_serve_worker.proofs.Lines.{goes_on}
 use Rattle.bl_serve.proofs.Sections.{FitsFrom, section}
 
@@ -31,21 +31,6 @@ olds_of taken = map (λ t. t.old) taken
 
 abbrev news_of : List Taken → List Pass
 news_of taken = map (λ t. t.new) taken
-
-all_own : (index : Index) (seen : Trail) (from : ℕ) (passes : List Pass) → AreFrom index seen from passes → All (IsPassOf index) passes
-all_own index seen from [] h = All-nil (IsPassOf index)
-all_own index seen from (p ∷ ps) h = All-cons (IsPassOf index) p ps h.0 (all_own index seen (suc from) ps h.3)
-
-pub own_together : (index : Index) (seen : Trail) (passes : List Pass) → AreTogether index seen passes → All (IsPassOf index) passes
-own_together index seen passes t = all_own index seen 0 passes t.each
-
--- they have seen what the first one has
-pub first_seen : (index : Index) (seen : Trail) (passes : List Pass) → 0 < length passes → AreTogether index seen passes → seen_by passes ≡ seen
-first_seen index seen [] some t = absurd (omega arith)
-first_seen index seen (p ∷ ps) some t = t.each.2
-
-pub together_by_first : (index : Index) (seen : Trail) (passes : List Pass) → 0 < length passes → AreTogether index seen passes → AreTogether index (seen_by passes) passes
-together_by_first index seen passes some t = subst (λ (z : Trail). AreTogether index z passes) (sym (first_seen index seen passes some t)) t
 
 -- ---- the passes meet
 

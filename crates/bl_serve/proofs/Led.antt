@@ -18,9 +18,9 @@ use Rattle.bl_index.specs.declared.index.Index.{Index}
 use Rattle.bl_index.specs.declared.index.Pass.{Pass}
 use Rattle.bl_index.specs.Calls.{first_of, map_after, number_of, trail}
 use Rattle.bl_serve.specs.Noting.{HaveNoted, StillLead}
-use Rattle.bl_serve.specs.Serving.{AreFrom, AreTogether}
+use Rattle.bl_serve_ground.specs.Together.{AreFrom, AreTogether}
 use Rattle.bl_serve.proofs.Holding.{all_within}
-use Rattle.bl_serve.proofs.Sections.{all_below}
+use Rattle.bl_serve_ground.proofs.Gathered.{all_below}
 use Rattle.bl_serve.proofs.Weaving.{by_part, parts}
 
 -- ---- the rows that entries give, some each

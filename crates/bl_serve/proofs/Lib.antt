@@ -13,12 +13,9 @@ pub mod Advance
 pub mod Holding
 pub mod Faults
 pub mod Continuing
-pub mod Beginning
-pub mod Leaving
 pub mod Noting
 pub mod Led
 pub mod Surviving
-pub mod Doubling
 pub mod Standing
 pub mod Wider
 pub mod Lent

@@ -2,37 +2,20 @@
 use Rattle.std.proofs.Common.{◌≡◌, ℕ, suc, ◌<◌, ◌++◌, List, [], ◌∷◌, length, map, Option, Some, None, refl, sym, ap, ◌∙◌, subst, arith}
 use Rattle.std.specs.Prelude.{All, flat_map}
 use Rattle.std.proofs.lemmas.List.{append_cancel_left}
-use Rattle.std.proofs.lemmas.List.Elements.{All-nil, All-cons, All-head, All-tail}
+use Rattle.std.proofs.lemmas.List.Elements.{All-head, All-tail}
 use Rattle.bl_model.specs.declared.operation.Entry.{Entry}
 use Rattle.bl_model.specs.History.{IsLegalFrom, entries_of_pass}
-use Rattle.bl_model.proofs.Histories.{entries_of_pass-append}
 use Rattle.bl_serve_lines.specs.declared.request.Request.{Request}
 use Rattle.bl_serve_lines.specs.Lines.{Answer, entries}
 use Rattle.bl_serve_lines.specs.Served.{Interleaves, on_key}
 use Rattle.bl_page.specs.declared.page.Page.{Page}
-use Rattle.bl_page.specs.Machine.{Name}
-use Rattle.bl_claims.specs.Trails.{Said, Trail, entries_at, history_of}
+use Rattle.bl_claims.specs.Trails.{Trail, history_of}
 use Rattle.bl_claims.specs.Seeing.{first_map, IsLinearizable, own, AreWithin, GoesOnFrom}
 use Rattle.bl_index.specs.Calls.{number_of, trail}
 use Rattle.bl_serve.specs.Chunks.{Taken, IsTaken, IsChunk}
 use Rattle.bl_serve_worker.proofs.Lines.{history_append}
+use Rattle.bl_serve_ground.proofs.Gathered.{all_below, own_more, within_rest}
 use Rattle.bl_serve.proofs.Weaving.{joined, all_of, parts, by_part, one_by_one}
-
-module _ (passes : ℕ) where
-  abbrev pub IsBelow : Entry → Type 0
-  IsBelow e = e.pass < passes
-
-  entries_below : (p : Name) (said : Option Said) (es : List Entry) → p.pass < passes → All IsBelow es → All IsBelow (entries_at p said ++ es)
-  entries_below p None es low all = all
-  entries_below p (Some s) es low all = All-cons IsBelow (record { pass = p.pass; op = s.op; reply = s.reply }) es low all
-
-  pub all_below : (marks : Trail) → AreWithin passes marks → All IsBelow (history_of marks)
-  all_below [] w = All-nil IsBelow
-  all_below (m ∷ ms) w = entries_below m.event.process m.said (history_of ms) (w m (0, omega arith, refl)) (all_below ms (λ n c. w n (suc c.0, (let l = c.1 in omega arith), c.2)))
-
-  pub within_rest : (old more : Trail) → AreWithin passes (old ++ more) → AreWithin passes more
-  within_rest [] more w = w
-  within_rest (m ∷ ms) more w = within_rest ms more (λ n c. w n (suc c.0, (let l = c.1 in omega arith), c.2))
 
 -- The passes are numbered from that one on. Each had seen old before the section; and new, which all have seen after they
 -- have met, has no entry of it that it hadn't seen at the section's end.
@@ -41,12 +24,9 @@ FitsFrom old new from [] = Unit {0}
 FitsFrom old new from (t ∷ ts) = (number_of t.old ≡ from) × (trail t.old ≡ old) × (own from new ≡ own from (trail t.new)) × FitsFrom old new (suc from) ts
 
 module _ (old new more : Trail) (on : new ≡ old ++ more) where
-  pub own_more : (pass : ℕ) → own pass new ≡ own pass old ++ entries_of_pass pass (history_of more)
-  own_more pass = ap (own pass) on ∙ (ap (entries_of_pass pass) (history_append old more) ∙ entries_of_pass-append pass (history_of old) (history_of more))
-
   share_is : (first : List (Option Page)) (from : ℕ) (t : Taken) → IsTaken first t → number_of t.old ≡ from → trail t.old ≡ old → own from new ≡ own from (trail t.new) → entries_of_pass from (history_of more) ≡ joined t.share
   share_is first from t is number before after = append_cancel_left (own from old) (entries_of_pass from (history_of more)) (joined t.share)
-      (sym (own_more from) ∙ (after
+      (sym (own_more old new more on from) ∙ (after
       ∙ (subst (λ (z : ℕ). own z (trail t.new) ≡ own z (trail t.old) ++ joined t.share) number is.mine
       ∙ ap (λ (z : Trail). own from z ++ joined t.share) before)))
 

@@ -27,12 +27,12 @@ use Rattle.bl_claims.specs.Trails.{Trail, history_of}
 use Rattle.bl_claims.specs.Seeing.{first_map}
 use Rattle.bl_index.specs.declared.index.Pass.{Pass}
 use Rattle.bl_index.specs.Calls.{first_of, map_after}
-use Rattle.bl_serve.specs.declared.ground.Ground.{Ground}
+use Rattle.bl_serve_ground.specs.declared.ground.Ground.{Ground}
 use Rattle.bl_serve_reading.specs.declared.section_reader.SectionEnd.{SectionEnd}
 use Rattle.bl_serve_reading.specs.Reading.{EndsReading}
 use Rattle.bl_serve.specs.Sections.{end_text}
 use Rattle.bl_serve.specs.Holding.{ServesSection}
-use Rattle.bl_serve.specs.Standing.{StandsAt, index_in, map_in}
+use Rattle.bl_serve_ground.specs.Standing.{StandsAt, index_in, map_in}
 use Rattle.bl_serve.specs.Surviving.{Survives}
 use Rattle.bl_serve_worker.proofs.Lines.{history_append}
 use Rattle.bl_serve.proofs.Advance.{Progress, no_progress, section_of, stopped, the_lines, the_are, whole_section, read_is, text_is, open_text, legal_on, legal_so_far}

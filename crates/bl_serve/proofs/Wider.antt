@@ -1,5 +1,5 @@
 -- What is answered by an index of some pages is so by one that has no more at least, and no fewer at most.
-use Rattle.std.proofs.Common.{◌≡◌, ℕ, ◌≤◌, Option, List, [], ◌∷◌, arith}
+use Rattle.std.proofs.Common.{◌≡◌, ℕ, ◌≤◌, Option, List, [], ◌∷◌, subst, arith}
 use Rattle.std.specs.List.{AllZip}
 use Rattle.bl_serve_lines.specs.declared.request.Request.{Request}
 use Rattle.bl_serve_lines.specs.Lines.{Answer}
@@ -8,10 +8,10 @@ use Rattle.bl_index.specs.declared.index.Pass.{Pass}
 use Rattle.bl_serve_reading.specs.declared.section_reader.SectionEnd.{SectionEnd}
 use Rattle.bl_serve_worker.specs.Answering.{IsFor}
 use Rattle.bl_serve_worker.specs.Answering.IsFor.{Replies, Sums, Scans, States, Syncs, Refuses}
-use Rattle.bl_serve.specs.declared.ground.Ground.{Ground}
+use Rattle.bl_serve_ground.specs.declared.ground.Ground.{Ground}
 use Rattle.bl_serve.specs.Holding.{HoldsSection, ServesSection}
 use Rattle.bl_serve.specs.Sections.{Held}
-use Rattle.bl_serve.specs.Standing.{StandsAt, sizes_in}
+use Rattle.bl_serve_ground.specs.Standing.{StandsAt, sizes_in}
 
 module _ (pages sizes : ℕ × ℕ) (low : pages.0 ≤ sizes.0) (high : sizes.1 ≤ pages.1) where
   wider_answer : {asked : Option Request} {answer : Answer} → IsFor sizes asked answer → IsFor pages asked answer
@@ -40,4 +40,4 @@ module _ (pages sizes : ℕ × ℕ) (low : pages.0 ≤ sizes.0) (high : sizes.1 
 -- a section, told with the pages that there were when the server began
 pub as_at_start : (from : Ground) (pages : ℕ × ℕ) (seen : Trail) (old : Ground) (done : ℕ) (asked : List (Option Request)) (end : SectionEnd) (text : List ℕ) (olds : List Pass) (new : Ground) (news : List Pass) → StandsAt from pages seen old olds
     → ServesSection (sizes_in old) old done asked end text olds new news → ServesSection pages old done asked end text olds new news
-as_at_start from pages seen old done asked end text olds new news t s = wider pages (sizes_in old) t.least (let same = t.most in omega (arith, same)) old done asked end text olds new news s
+as_at_start from pages seen old done asked end text olds new news t s = subst (λ (z : ℕ × ℕ). ServesSection z old done asked end text olds new news) t.sizes s

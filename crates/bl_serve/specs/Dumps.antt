@@ -1,26 +1,15 @@
 -- The image that a server leaves.
-use Rattle.std.specs.Prelude.{◌≤◌, ℕ, List, Option, Result, IfOk, length}
-use Rattle.bl_model.specs.Map.{Map, SameMap}
-use Rattle.bl_model.specs.History.{final_map}
+use Rattle.std.specs.Prelude.{ℕ, List, Result, IfOk, length}
 use Rattle.bl_model.specs.Rows.{map_of}
-use Rattle.bl_model.specs.declared.operation.Entry.{Entry}
-use Rattle.bl_page.specs.declared.page.Page.{Page}
-use Rattle.bl_check.specs.Rows.{AreRowsOf}
 use Rattle.bl_check.specs.declared.quiet.Quiet.{Quiet}
 use Rattle.bl_serve_lines.specs.declared.serving.Sectioning.{Sectioning}
 use Rattle.bl_serve_lines.specs.declared.serving.Totals.{Totals}
 use Rattle.bl_serve_lines.specs.Served.{whole_history}
-use Rattle.bl_serve.specs.declared.origin.Origin.{Origin}
-use Rattle.bl_serve.specs.Growing.{IsDoubled}
-use Rattle.bl_serve.specs.Origins.{size_of, sizes_of, ServedFrom}
-
--- There are so many pages at least, and at most, and their rows are the map after the history, from that map on.
-pub record HoldMapAfter (map : Map) (history : List Entry) (sizes : ℕ × ℕ) (pages : List (Option Page)) : Type 0 where
-  pub least : sizes.0 ≤ length pages
-  pub most : length pages ≤ sizes.1
-  pub rows : List (ℕ × ℕ)
-  pub are_rows : AreRowsOf pages rows
-  pub same : SameMap (final_map map history) (map_of rows)
+use Rattle.bl_serve_ground.specs.declared.origin.Origin.{Origin}
+use Rattle.bl_serve_ground.specs.Growing.{IsDoubled}
+use Rattle.bl_serve_ground.specs.Leaving.{HoldMapAfter}
+use Rattle.bl_serve_ground.specs.Origins.{size_of, sizes_of}
+use Rattle.bl_serve.specs.Origins.{ServedFrom}
 
 -- The input was served from there on, and the image, if there was memory for it, holds the map after that, in the pages of the beginning, doubled some
 -- times.

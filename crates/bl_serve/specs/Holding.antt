@@ -10,10 +10,11 @@ use Rattle.bl_index.specs.Calls.{first_of, pages_of}
 use Rattle.bl_map.specs.declared.handle.Handle.{Handle}
 use Rattle.bl_map.specs.Handles.{seats_of}
 use Rattle.bl_serve_reading.specs.declared.section_reader.SectionEnd.{SectionEnd}
-use Rattle.bl_serve.specs.declared.ground.Ground.{Ground}
+use Rattle.bl_serve_ground.specs.declared.ground.Ground.{Ground}
 use Rattle.bl_serve.specs.Sections.{Held, end_text}
-use Rattle.bl_serve.specs.Serving.{AreTogether, ServedBy, seen_by}
-use Rattle.bl_serve.specs.Standing.{GoesOn, StandsAt, index_in, sizes_in}
+use Rattle.bl_serve_ground.specs.Together.{AreTogether, seen_by}
+use Rattle.bl_serve.specs.Serving.{ServedBy}
+use Rattle.bl_serve_ground.specs.Standing.{GoesOn, StandsAt, index_in, sizes_in}
 
 -- These are handles of all seats of the index, which have met.
 abbrev pub AreMet : Index → List Handle → Type 0

@@ -5,10 +5,7 @@ pub mod Meetings
 pub mod Noting
 pub mod Sections
 pub mod Serving
-pub mod Standing
-pub mod Growing
 pub mod Holding
 pub mod Surviving
 pub mod Origins
 pub mod Dumps
-pub mod Begun

@@ -1,38 +1,18 @@
 -- What a server begins with, and serving from there on.
-use Rattle.std.specs.Prelude.{◌≡◌, ◌≤◌, ◌+◌, ◌^◌, max, ℕ, List, [], length}
+use Rattle.std.specs.Prelude.{◌≡◌, ◌≤◌, ◌+◌, ◌^◌, ℕ, List, []}
 use Rattle.bl_model.specs.Rows.{map_of}
-use Rattle.bl_check.specs.Rows.{AreRowsOf}
 use Rattle.bl_serve_lines.specs.declared.serving.Sectioning.{Sectioning}
 use Rattle.bl_serve_lines.specs.declared.serving.Totals.{Totals}
 use Rattle.bl_serve_lines.specs.declared.serving.ServeFault.{ServeFault}
 use Rattle.bl_serve_lines.specs.declared.serving.ServeFault.TheVariants.{Memory}
 use Rattle.bl_serve_lines.specs.Served.{Served, Stops}
 use Rattle.bl_serve.specs.declared.session.ServePlan.{ServePlan}
-use Rattle.bl_serve.specs.declared.origin.Origin.{Origin}
-use Rattle.bl_serve.specs.declared.origin.Origin.TheVariants.{Empty, Image}
-
--- it has as many pages as an index may have, as an image has by its type
-abbrev pub HasPages : Origin → Type 0
-HasPages (Empty pages) = (4 ≤ pages) × (pages ≤ 2 ^ 28)
-HasPages (Image quiet) = Unit {0}
+use Rattle.bl_serve_ground.specs.declared.origin.Origin.{Origin}
+use Rattle.bl_serve_ground.specs.Origins.{HasRows, sizes_of}
 
 -- it has a worker, and 64 threads at most, and grows to no more pages than an index may have
 abbrev pub MayServe : ServePlan → Type 0
 MayServe plan = (1 ≤ plan.workers) × (plan.workers + plan.compressors ≤ 64) × (plan.most ≤ 2 ^ 28)
-
--- how many pages the index has
-abbrev pub size_of : Origin → ℕ
-size_of (Empty pages) = pages
-size_of (Image quiet) = length quiet.image.pages.items
-
--- the rows that the index begins with: none, or those of the image
-abbrev pub HasRows : Origin → List (ℕ × ℕ) → Type 0
-HasRows (Empty pages) rows = rows ≡ []
-HasRows (Image quiet) rows = AreRowsOf quiet.image.pages.items rows
-
--- how many pages it has from then on, at least and at most, where it may grow to so many
-abbrev pub sizes_of : Origin → ℕ → ℕ × ℕ
-sizes_of origin most = (size_of origin, max (size_of origin) most)
 
 -- The input is served from the map of those rows on, by an index that begins with as many pages, and has so many at least and at most.
 pub record ServedFrom (how : Sectioning) (origin : Origin) (most : ℕ) (totals : Totals) (input output : List ℕ) : Type 0 where

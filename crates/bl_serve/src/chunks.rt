@@ -13,13 +13,13 @@ ghost use Rattle.bl_serve.specs.Chunks.{IsChunk, Collects, WorkOn};
 ghost use Rattle.bl_serve.specs.Noting.{NoteMore, StillLead};
 ghost use Rattle.bl_serve.specs.Holding.{AreMet, HoldsChunk, HoldsSection};
 ghost use Rattle.bl_serve.specs.Serving.{IsInside};
-ghost use Rattle.bl_serve.specs.Standing.{IsAtRest, index_in, map_in, sizes_in};
+ghost use Rattle.bl_serve_ground.specs.Standing.{IsAtRest, index_in, map_in, sizes_in};
 
 use crate::dealing::{deal, shares_for};
 use crate::growing::with_room;
 use crate::joining::join_outputs;
 use crate::meeting::meet_all;
-use crate::session::{Crew, Session, Spare, ThreadPlan};
+use crate::session::{Crew, Session, ThreadPlan};
 use bl_changes::{Changes, histories_lead};
 use bl_index::{Index, Pass};
 use bl_map::{Handle, give_seats, handles_over};
@@ -422,7 +422,7 @@ fn answer_at<'a, R: Threads + Wait + Sync, G: Gate + Sync, I: Read>(
         plan,
         ground,
         passes,
-        spare: Spare { free, ..spare },
+        spare: spare.having(free),
         slots,
         totals,
         remarks,

@@ -4,55 +4,32 @@ ghost use Rattle.std.specs.Prelude.{◌≡◌, ℕ, List, ◌+◌, ◌<◌, ◌�
 ghost use Rattle.bl_claims.specs.Trails.{history_of};
 ghost use Rattle.bl_claims.specs.Seeing.{first_map};
 ghost use Rattle.bl_index.specs.Calls.{first_of, pages_of};
-ghost use Rattle.bl_serve.specs.Dumps.{DumpedFrom, HoldMapAfter};
-ghost use Rattle.bl_serve.specs.Origins.{HasPages, HasRows, MayServe, StopsFrom, sizes_of};
-ghost use Rattle.bl_serve.specs.Standing.{IsOwned, index_in};
+ghost use Rattle.bl_serve_ground.specs.Leaving.{HoldMapAfter};
+ghost use Rattle.bl_serve.specs.Dumps.{DumpedFrom};
+ghost use Rattle.bl_serve_ground.specs.Origins.{HasPages, HasRows, sizes_of};
+ghost use Rattle.bl_serve.specs.Origins.{MayServe, StopsFrom};
+ghost use Rattle.bl_serve_ground.specs.Standing.{IsOwned, index_in};
 ghost use Rattle.bl_serve.specs.Surviving.{Survives};
-ghost use Rattle.bl_serve.specs.Serving.{AreTogether, EndsServing, seen_by};
+ghost use Rattle.bl_serve_ground.specs.Together.{AreTogether, seen_by};
+ghost use Rattle.bl_serve.specs.Serving.{EndsServing};
 ghost use Rattle.bl_model.specs.Rows.{map_of};
 ghost use Rattle.bl_outside.specs.Crashes.{FindsOnly};
 ghost use Rattle.std.specs.Io.KnownBytes.{Consumes};
 
-use crate::ground::Ground;
-use crate::origin::Origin;
 use crate::serving::serve_with;
 use crate::session::ServePlan;
-use crate::starting::{ground_of, open_index, plan_of};
+use crate::starting::plan_of;
 use crate::summary::Summary;
 use bl_check::Quiet;
-use bl_index::{CloseFault, Index, Pass};
 use bl_model::Watched;
 use bl_outside::Outside;
+use bl_serve_ground::{Origin, ground_of, open_index, own_index, shut};
 use bl_serve_lines::{Sectioning, ServeFault, Totals};
 use bl_serve_worker::OpenGate;
 use std::alloc::{AllocError, Global};
 use std::io::{Read, Write};
 use std::sync::Wait;
 use std::thread::Threads;
-
-/// The index of a server that has one of its own.
-fn own_index(ground: Ground<'_>) -> Index
-    requires { IsOwned ground }
-    ensures { result ≡ index_in ground.entry }
-{
-    match ground {
-        Ground::Own(index, _) => index,
-        Ground::Lent(_) => unreachable!(),
-    }
-}
-
-/// Closes an index by all its passes, which have met: its image has the rows of the map after what they have seen.
-fn shut(alloc: Global, index: Index, passes: Vec<Pass>) -> Result<Quiet, AllocError>
-    requires some { 0 < vec_len passes }
-    requires together { AreTogether index (seen_by passes.items) passes.items }
-    ensures { IfOk result (λ quiet. HoldMapAfter (first_map (first_of index)) (history_of (seen_by passes.items)) (pages_of index, pages_of index) quiet.image.pages.items) }
-{
-    match index.close(alloc, passes) {
-        Ok(quiet) => Ok(quiet),
-        Err((_, _, CloseFault::Memory)) => Err(AllocError),
-        Err((_, _, CloseFault::Pass)) => unreachable!(),
-    }
-}
 
 /// Serves as `serve_index` does, and where that ended without a fault closes the index: behind the totals stands its image,
 /// which is sound, or that there was no memory to close it.

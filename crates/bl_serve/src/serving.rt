@@ -11,18 +11,19 @@ ghost use Rattle.bl_serve.specs.Noting.{StillLead};
 ghost use Rattle.bl_serve_reading.specs.Reading.{EndsReading, ReadsOn};
 ghost use Rattle.bl_serve.specs.Sections.{CountsSection, rests};
 ghost use Rattle.bl_serve.specs.Surviving.{Survives};
-ghost use Rattle.bl_serve.specs.Serving.{AreTogether, EndsServing, FailsSection, IsInside, Serves, seen_by};
-ghost use Rattle.bl_serve.specs.Standing.{IsAtRest, map_in, sizes_in};
+ghost use Rattle.bl_serve_ground.specs.Together.{AreTogether, seen_by};
+ghost use Rattle.bl_serve.specs.Serving.{EndsServing, FailsSection, IsInside, Serves};
+ghost use Rattle.bl_serve_ground.specs.Standing.{IsAtRest, map_in, sizes_in};
 
 use crate::chunks::{new_slots, run_chunk};
-use crate::ground::Ground;
-use crate::session::{Session, Spare, ThreadPlan};
+use crate::session::{Session, ThreadPlan};
 use crate::summary::{Remarks, Summary, summed_up};
 use bl_changes::Changes;
 use bl_hints::Hints;
 use bl_index::{Index, Pass};
 use bl_model::Watched;
 use bl_outside::{Outside, keep_and_print};
+use bl_serve_ground::{Ground, Spare};
 use bl_serve_lines::print::{Response, push_line};
 use bl_serve_lines::request::Request;
 use bl_serve_lines::{Sectioning, ServeFault, Totals};
@@ -246,10 +247,7 @@ fn begun(
         malformed: 0,
         sections: 0,
     };
-    let spare = Spare {
-        free: u64::from(ground.index().room().free_pages),
-        is_refused: false,
-    };
+    let spare = Spare::new(u64::from(ground.index().room().free_pages));
     Ok(Session {
         plan,
         ground,

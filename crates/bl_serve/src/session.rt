@@ -2,11 +2,11 @@
 
 ghost use Rattle.std.specs.Prelude.{◌≡◌, ◌<◌, ◌≤◌, vec_len};
 
-use crate::ground::Ground;
 use crate::summary::Remarks;
 use bl_changes::Changes;
 use bl_index::Pass;
 use bl_map::Handle;
+use bl_serve_ground::{Ground, Spare};
 use bl_serve_lines::{Sectioning, Totals};
 use bl_serve_worker::Slot;
 
@@ -32,27 +32,6 @@ pub struct ThreadPlan {
     pub alone: usize,
     /// Which lines end a section.
     pub sections: Sectioning,
-}
-
-/// What is known of the room of an index while nobody works.
-#[derive(Clone, Copy, Debug, PartialEq, Eq)]
-pub struct Spare {
-    /// So many pages are free.
-    pub free: u64,
-    /// Memory for a larger index was refused, so it is not asked for again.
-    pub is_refused: bool,
-}
-
-impl Spare {
-    /// Behind an attempt to have so many pages in place of those before, after which there are so many.
-    pub fn behind(self, before: u32, wanted: u32, pages: u32) -> Spare {
-        Spare {
-            free: self
-                .free
-                .saturating_add(u64::from(pages.saturating_sub(before))),
-            is_refused: pages < wanted,
-        }
-    }
 }
 
 /// The index of a server with all its passes, a slot for each of them, what was counted, and the changes and the output of the section that

@@ -2,26 +2,24 @@
 
 ghost use Rattle.std.specs.Prelude.{◌≡◌, ◌+◌, ◌^◌, ◌≤◌, ℕ, List, [], ◌++◌, true, IfOk, MatchResult, false, OnOk};
 ghost use Rattle.bl_index.specs.Opened.{IsBegun, IsReopened};
-ghost use Rattle.bl_serve.specs.Begun.{IsBegunFrom, IsOwn};
-ghost use Rattle.bl_serve.specs.Origins.{HasPages, HasRows, MayServe, ServedFrom, StopsFrom, sizes_of};
+ghost use Rattle.bl_serve_ground.specs.Begun.{IsBegunFrom, IsOwn};
+ghost use Rattle.bl_serve_ground.specs.Origins.{HasPages, HasRows, sizes_of};
+ghost use Rattle.bl_serve.specs.Origins.{MayServe, ServedFrom, StopsFrom};
 ghost use Rattle.bl_serve.specs.Surviving.{Survives};
 ghost use Rattle.bl_serve.specs.Serving.{EndsServing};
 ghost use Rattle.bl_model.specs.Rows.{map_of};
 ghost use Rattle.bl_outside.specs.Crashes.{FindsOnly};
 ghost use Rattle.std.specs.Io.KnownBytes.{Consumes};
 
-use crate::ground::Ground;
-use crate::origin::Origin;
 use crate::serving::serve_with;
 use crate::session::{ServePlan, ThreadPlan};
 use crate::summary::Summary;
-use bl_check::Quiet;
-use bl_index::{Config, Index, OpenFault, Pass};
 use bl_model::Watched;
 use bl_outside::Outside;
+use bl_serve_ground::{Origin, ground_of, open_index};
 use bl_serve_lines::{Sectioning, ServeFault, Totals};
 use bl_serve_worker::OpenGate;
-use std::alloc::{AllocError, Global};
+use std::alloc::Global;
 use std::io::{Read, Write};
 use std::sync::Wait;
 use std::thread::Threads;
@@ -29,47 +27,6 @@ use std::thread::Threads;
 /// Fewer requests than this, of an index that only the server uses, are answered by one thread: to start and to join another takes
 /// about as long as they do.
 const ALONE: usize = 1_024;
-
-/// An index without rows, of so many pages, with so many passes.
-fn open_empty(alloc: Global, pages: u32, passes: u32) -> Result<(Index, Vec<Pass>), AllocError>
-    requires pages { (4 ≤ pages) × (pages ≤ 2 ^ 28) }
-    requires passes { (1 ≤ passes) × (passes ≤ 64) }
-    ensures { IfOk result (λ t. IsBegun [] pages passes t.0 t.1.items) }
-{
-    match Index::open_large(alloc, Config { pages, passes }) {
-        Ok(opened) => Ok(opened),
-        Err(OpenFault::Memory) => Err(AllocError),
-        Err(_) => unreachable!(),
-    }
-}
-
-/// An index with the pages of an image, and so many passes.
-fn open_image(alloc: Global, quiet: Quiet, passes: u32) -> Result<(Index, Vec<Pass>), AllocError>
-    requires { (1 ≤ passes) × (passes ≤ 64) }
-    ensures { IfOk result (λ t. IsReopened quiet.image.pages.items passes t.0 t.1.items) }
-{
-    match Index::open_image(alloc, quiet, passes) {
-        Ok(opened) => Ok(opened),
-        Err((_, OpenFault::Memory)) => Err(AllocError),
-        Err(_) => unreachable!(),
-    }
-}
-
-/// An index that begins so, with so many passes. They have seen nothing yet.
-pub fn open_index(
-    alloc: Global,
-    origin: Origin,
-    passes: u32,
-) -> Result<(Index, Vec<Pass>), AllocError>
-    requires pages { HasPages origin }
-    requires passes { (1 ≤ passes) × (passes ≤ 64) }
-    ensures { IfOk result (λ t. IsBegunFrom origin passes t.0 t.1.items) }
-{
-    match origin {
-        Origin::Empty(pages) => open_empty(alloc, pages, passes),
-        Origin::Image(quiet) => open_image(alloc, quiet, passes),
-    }
-}
 
 /// The workers and the sections of that plan, where no gate holds a worker.
 pub fn plan_of(plan: ServePlan) -> ThreadPlan
@@ -80,15 +37,6 @@ pub fn plan_of(plan: ServePlan) -> ThreadPlan
         alone: ALONE,
         sections: plan.sections,
     }
-}
-
-/// The index as a server's own, which may grow to so many pages, where these are more than it has.
-pub fn ground_of<'a>(index: Index, most: u32) -> Ground<'a>
-    requires { most ≤ 2 ^ 28 }
-    ensures { IsOwn index most result }
-{
-    let bound = index.patience().max(most);
-    Ground::Own(index, bound)
 }
 
 /// Serves the request lines of the reader over an index of its own, which begins without rows or with those of a sound image, and keeps its

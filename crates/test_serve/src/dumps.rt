@@ -1,7 +1,7 @@
 //! Dumps: the image that the served requests leave.
 
 ghost use Rattle.std.specs.Prelude.{◌≤◌};
-ghost use Rattle.bl_serve.specs.Origins.{HasPages};
+ghost use Rattle.bl_serve_ground.specs.Origins.{HasPages};
 
 use crate::served::{inserts, inserts_before};
 use bl_check::{Quiet, Report, check, load};

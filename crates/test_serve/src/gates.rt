@@ -1,7 +1,7 @@
 //! Gates that hold requests.
 
 ghost use Rattle.std.specs.Prelude.{◌≡◌, vec_len};
-ghost use Rattle.bl_serve.specs.Serving.{AreTogether, seen_by};
+ghost use Rattle.bl_serve_ground.specs.Together.{AreTogether, seen_by};
 
 use crate::served::opened;
 use bl_index::{Index, Pass};

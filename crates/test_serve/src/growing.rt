@@ -1,4 +1,4 @@
-//! A server whose index grows.
+//! A server whose index grows and shrinks.
 
 ghost use Rattle.std.specs.Prelude.{◌≤◌, ◌^◌};
 ghost use Rattle.bl_serve.specs.Origins.{MayServe};
@@ -113,6 +113,45 @@ fn finds(alloc: Global, count: u32) -> Result<Vec<u8>, Fail> {
     Ok(lines)
 }
 
+/// Lines that delete the keys from 1 up to that one.
+fn deletions(alloc: Global, last: u32) -> Result<Vec<u8>, Fail> {
+    let mut lines = Vec::new(alloc);
+    for key in 1..=last {
+        let line = format!(in alloc; "delete {key}\n")?;
+        lines.extend_from_slice(line.as_bytes())?;
+    }
+    Ok(lines)
+}
+
+/// Lines that insert 300 rows and delete the first 290, some that find nothing, and one that finds a row.
+fn drained(alloc: Global) -> Result<Vec<u8>, Fail> {
+    let mut lines = inserts(alloc, 300)?;
+    lines.extend_from_slice(deletions(alloc, 290)?.as_slice())?;
+    lines.extend_from_slice(finds(alloc, 100)?.as_slice())?;
+    lines.extend_from_slice(b"find 295\n")?;
+    Ok(lines)
+}
+
+// The index has grown for 300 rows. Once ten are left, it has given most pages back, and the rows are there.
+#[test]
+fn pages_go_once_most_rows_have_gone(rt: HostRuntime) -> Result<(), Fail> {
+    let input = drained(rt.alloc())?;
+    let served = grown(
+        &rt,
+        rt.alloc(),
+        input.as_slice(),
+        Sectioning::AtMost(1),
+        1_024,
+    );
+    assert!(rt; served.is_some());
+    if let Some((text, norooms, (pages, rows))) = served {
+        assert!(rt; text.as_slice().ends_with(b"691 found 2950\n"));
+        assert_eq!(rt; (norooms, rows), (0, 10));
+        assert!(rt; pages >= 4 && pages <= 32, "{pages} pages");
+    }
+    Ok(())
+}
+
 /// The replies to so many such lines, numbered from 1.
 fn absents(alloc: Global, count: u32) -> Result<Vec<u8>, Fail> {
     let mut lines = Vec::new(alloc);
@@ -167,6 +206,19 @@ fn a_log_outlives_a_growth(rt: HostRuntime) -> Result<(), Fail> {
         let rows = rows_in(rt.alloc(), tape.log());
         assert!(rt; rows.is_ok_and(|rows| rows.len() == 99 && rows[98] == (100, 1_000)));
         assert!(rt; tape.printed().ends_with(b"100 inserted\n101 deleted 10\n"));
+    }
+    Ok(())
+}
+
+// And the rows of before it shrank.
+#[test]
+fn a_log_outlives_a_shrink(rt: HostRuntime) -> Result<(), Fail> {
+    let input = drained(rt.alloc())?;
+    let tape = kept(&rt, rt.alloc(), input.as_slice());
+    assert!(rt; tape.is_some());
+    if let Some(tape) = tape {
+        let rows = rows_in(rt.alloc(), tape.log());
+        assert!(rt; rows.is_ok_and(|rows| rows.len() == 10 && rows[0] == (291, 2_910)));
     }
     Ok(())
 }

@@ -2,7 +2,7 @@
 
 ghost use Rattle.std.specs.Prelude.{◌≡◌, ◌≤◌, ◌+◌, All, IfSome, vec_len};
 ghost use Rattle.bl_index.specs.Calls.{IsPassOf};
-ghost use Rattle.bl_serve.specs.Serving.{AreTogether, seen_by};
+ghost use Rattle.bl_serve_ground.specs.Together.{AreTogether, seen_by};
 
 use bl_index::{Config, Index, Pass};
 use bl_model::Watched;

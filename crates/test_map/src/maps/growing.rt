@@ -74,7 +74,7 @@ fn grown<R: Wait>(rt: &R, alloc: Global) -> Option<(bool, u64, bool)> {
     let (seat, seam) = fill(rt, &map, seat, 0);
     let (map, seat) = larger(alloc, map, seat)?;
     let (seat, end) = fill(rt, &map, seat, seam);
-    let there = are_there(rt, &map, seat, seam);
+    let there = map.pages() == 4_096 && are_there(rt, &map, seat, seam);
     Some((0 < seam && seam < ROWS, end, there))
 }
 

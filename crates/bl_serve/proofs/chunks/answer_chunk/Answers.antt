@@ -7,7 +7,7 @@ use Rattle.bl_serve_worker.specs.Answering.{joined_text}
 use Rattle.bl_serve.specs.Chunks.{Collects, WorkOn}
 use Rattle.bl_serve.specs.Dealing.{AreDealt}
 use Rattle.bl_serve.specs.Joining.{IsOutputOf, IsWhole}
-use Rattle.bl_serve.proofs.Holding.{own_together}
+use Rattle.bl_serve_ground.proofs.Gathered.{own_together}
 use Rattle.bl_serve.proofs.Keeping.{all_low}
 use Rattle.bl_serve.proofs.Shares.{chunk, collected_whole, turns_long, lent}
 use Rattle.bl_serve.proofs.Noting.{notes_more}

@@ -1,9 +1,9 @@
 use Rattle.std.proofs.Common.{◌∙◌, ◌++◌, ◌<◌, ℕ, List, length, ap, sym, subst, arith}
 use Rattle.bl_serve_lines.specs.declared.serving.Totals.{Totals}
 use Rattle.bl_serve.specs.Holding.{HoldsChunk}
-use Rattle.bl_serve.specs.Standing.{index_in}
+use Rattle.bl_serve_ground.specs.Standing.{index_in}
 use Rattle.bl_serve.proofs.Chunked.{holds_behind, leads_behind}
-use Rattle.bl_serve.proofs.Standing.{rests_on}
+use Rattle.bl_serve_ground.proofs.Rests.{rests_on}
 use Rattle.bl_serve.proofs.chunks.run_chunk.Goals as goal
 
 pub answer_at-requires-clause-rests : goal.answer_at-requires-clause-rests

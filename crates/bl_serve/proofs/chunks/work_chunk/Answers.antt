@@ -1,7 +1,8 @@
 use Rattle.std.proofs.Common.{◌∙◌, arith}
 use Rattle.bl_index.specs.Calls.{first_of}
 use Rattle.bl_map.specs.Handles.{seats_of}
-use Rattle.bl_serve.proofs.Holding.{own_together, holds}
+use Rattle.bl_serve_ground.proofs.Gathered.{own_together}
+use Rattle.bl_serve.proofs.Holding.{holds}
 use Rattle.bl_serve.proofs.Noting.{notes_met}
 use Rattle.bl_serve.proofs.Shares.{chunk_own}
 use Rattle.bl_serve.proofs.Together.{all_seated, seats_long}

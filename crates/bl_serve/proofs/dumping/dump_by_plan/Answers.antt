@@ -8,11 +8,12 @@ use Rattle.bl_claims.specs.Trails.{history_of}
 use Rattle.bl_claims.specs.Seeing.{first_map}
 use Rattle.bl_index.specs.declared.index.Index.{Index}
 use Rattle.bl_index.specs.Calls.{first_of, pages_of}
-use Rattle.bl_serve.specs.Serving.{AreTogether, seen_by}
-use Rattle.bl_serve.specs.Origins.{Unopened, sizes_of}
+use Rattle.bl_serve_ground.specs.Together.{AreTogether, seen_by}
+use Rattle.bl_serve_ground.specs.Origins.{sizes_of}
+use Rattle.bl_serve.specs.Origins.{Unopened}
 use Rattle.bl_serve.specs.Surviving.{Survives}
 use Rattle.bl_serve.proofs.Surviving.{survives_nothing}
-use Rattle.bl_serve.proofs.Beginning.{same_rows}
+use Rattle.bl_serve_ground.proofs.Beginning.{same_rows}
 use Rattle.bl_serve.proofs.Lent.{owned_first, owned_still}
 use Rattle.bl_serve.proofs.Owned.{Leaves, log_seen, rests_first, said_of_rows, served_image, stops_from}
 use Rattle.bl_serve.proofs.dumping.dump_by_plan.Goals as goal
@@ -23,7 +24,7 @@ returns-in_err-index-clause-serves g c = let p = err_from_is_err_and c.from_resi
     rw (p.1, p.2) (record { input = []; ahead = []; output = []; consumed = consumes_start _; wrote = appends_start _; ok = tt; fault = Unopened refl refl refl })
 
 pub serve_with-requires-clause-rests : goal.serve_with-requires-clause-rests
-serve_with-requires-clause-rests g c κs within = rests_first c.args.plan.sections c.args.origin c.args.plan.most _ c.in_ok-index.index c.ground_of-ground.result c.in_ok-index.passes.items c.in_ok-index.ensures c.ground_of-ground.ensures (let a = c.in_ok-index.ensures.many in let d = c.requires.passes.0 in omega (arith, a, d))
+serve_with-requires-clause-rests g c κs within = rests_first c.args.plan.sections c.args.origin c.args.plan.most _ c.in_ok-index.index c.ground_of-ground.result c.in_ok-index.passes.items c.in_ok-index.ensures c.ground_of-ground.ensures c.requires.pages (let a = c.in_ok-index.ensures.many in let d = c.requires.passes.0 in omega (arith, a, d))
 
 -- the index that comes back is one of the server's own, with all its passes
 pub own_index-requires : goal.own_index-requires

@@ -4,7 +4,7 @@ use Rattle.bl_serve_lines.specs.Text.{numbered}
 use Rattle.bl_serve_lines.specs.declared.serving.Totals.{Totals}
 use Rattle.bl_serve_reading.specs.declared.section_reader.SectionEnd.TheVariants as section_end
 use Rattle.bl_serve.specs.Sections.{rests}
-use Rattle.bl_serve.specs.Standing.{sizes_in}
+use Rattle.bl_serve_ground.specs.Standing.{sizes_in}
 use Rattle.bl_serve.proofs.Holding.{plain_section, rest_section}
 use Rattle.bl_serve.proofs.serving.serve_chunk.Goals as goal
 

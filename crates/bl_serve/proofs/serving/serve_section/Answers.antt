@@ -12,9 +12,9 @@ use Rattle.bl_serve_lines.proofs.Known.{consumes_more}
 use Rattle.bl_index.specs.declared.index.Pass.{Pass}
 use Rattle.bl_journal.specs.Rows.{Leads}
 use Rattle.bl_serve_reading.specs.declared.section_reader.SectionEnd.TheVariants as section_end
-use Rattle.bl_serve.specs.declared.ground.Ground.{Ground}
+use Rattle.bl_serve_ground.specs.declared.ground.Ground.{Ground}
 use Rattle.bl_serve.specs.Holding.{ServesSection}
-use Rattle.bl_serve.specs.Standing.{map_in, sizes_in}
+use Rattle.bl_serve_ground.specs.Standing.{map_in, sizes_in}
 use Rattle.bl_serve_reading.specs.Reading.{EndsReading}
 use Rattle.bl_serve.specs.Serving.{FailsSection}
 use Rattle.bl_serve.proofs.Led.{leads_nowhere}

@@ -4,7 +4,7 @@ use Rattle.std.specs.Io.KnownBytes.{Consumes, IsAtEnd}
 use Rattle.bl_serve_lines.specs.declared.request.Request.{Request}
 use Rattle.bl_serve_lines.specs.Served.{after_lines}
 use Rattle.bl_journal.specs.Rows.{Leads}
-use Rattle.bl_serve.specs.Standing.{map_in}
+use Rattle.bl_serve_ground.specs.Standing.{map_in}
 use Rattle.bl_serve_reading.specs.Reading.{EndsReading}
 use Rattle.bl_serve.proofs.Continuing.{HasServed}
 use Rattle.bl_serve.proofs.serving.serve_section.Given as goal

@@ -7,13 +7,13 @@ use Rattle.bl_index.specs.Calls.{first_of, map_after}
 use Rattle.bl_outside.specs.Crashes.{FindsOnly}
 use Rattle.bl_outside.proofs.Finding.{finds_first}
 use Rattle.bl_serve_reading.specs.declared.section_reader.SectionEnd.TheVariants as section_end
-use Rattle.bl_serve.specs.Serving.{seen_by}
-use Rattle.bl_serve.specs.Standing.{index_in, map_in, sizes_in}
+use Rattle.bl_serve_ground.specs.Together.{seen_by}
+use Rattle.bl_serve_ground.specs.Standing.{index_in, map_in, sizes_in}
 use Rattle.bl_serve.specs.Surviving.{Survives}
 use Rattle.bl_serve.proofs.Advance.{no_progress, stops_inside}
 use Rattle.bl_serve.proofs.Faults.{room, stops_at_section, now_seen, stands_now, stops_at_write, goes_on_behind_end, serves_at_end, serves_no_more}
 use Rattle.bl_serve.proofs.Surviving.{survives_first, leads_on, lives_on, lives_reading}
-use Rattle.bl_serve.proofs.Standing.{some_between, stands_first}
+use Rattle.bl_serve_ground.proofs.Rests.{some_between, stands_first}
 use Rattle.bl_serve.proofs.Wider.{as_at_start}
 use Rattle.bl_serve.proofs.serving.serve_sections.Goals as goal
 

@@ -4,8 +4,8 @@ use Rattle.bl_claims.specs.Trails.{Trail}
 use Rattle.std.specs.Prelude.{◌↔◌}
 use Rattle.bl_outside.specs.Crashes.{FindsOnly}
 use Rattle.bl_index.specs.Calls.{first_of, map_after}
-use Rattle.bl_serve.specs.Serving.{seen_by}
-use Rattle.bl_serve.specs.Standing.{StandsAt, index_in, map_in, sizes_in}
+use Rattle.bl_serve_ground.specs.Together.{seen_by}
+use Rattle.bl_serve_ground.specs.Standing.{StandsAt, index_in, map_in, sizes_in}
 use Rattle.bl_serve.specs.Surviving.{Survives}
 use Rattle.bl_serve.proofs.Advance.{Progress}
 use Rattle.bl_serve.proofs.serving.serve_sections.Given as goal

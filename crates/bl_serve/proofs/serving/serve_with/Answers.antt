@@ -8,10 +8,10 @@ use Rattle.bl_index.specs.declared.index.Pass.{Pass}
 use Rattle.bl_index.specs.Calls.{first_of}
 use Rattle.bl_outside.specs.Crashes.{FindsOnly}
 use Rattle.bl_outside.proofs.Finding.{finds_first}
-use Rattle.bl_serve.specs.declared.ground.Ground.{Ground}
+use Rattle.bl_serve_ground.specs.declared.ground.Ground.{Ground}
 use Rattle.bl_serve.specs.Holding.{ServesOn}
-use Rattle.bl_serve.specs.Serving.{seen_by}
-use Rattle.bl_serve.specs.Standing.{IsAtRest, index_in, map_in, sizes_in}
+use Rattle.bl_serve_ground.specs.Together.{seen_by}
+use Rattle.bl_serve_ground.specs.Standing.{IsAtRest, index_in, map_in, sizes_in}
 use Rattle.bl_serve.specs.Surviving.{Survives}
 use Rattle.bl_serve.proofs.Surviving.{survives_first}
 use Rattle.bl_serve.proofs.Advance.{no_progress, stops_inside}

@@ -1,5 +1,5 @@
 use Rattle.std.proofs.Common.{arith}
-use Rattle.bl_serve.proofs.Beginning.{together}
+use Rattle.bl_serve_ground.proofs.Beginning.{together}
 use Rattle.test_serve.proofs.served.opened.Goals as goal
 
 pub returns-in-Ok : goal.returns-in-Ok

@@ -1,5 +1,5 @@
 use Rattle.std.proofs.Common.{◌<◌, length, arith}
-use Rattle.bl_serve.proofs.Holding.{own_together, together_by_first}
+use Rattle.bl_serve_ground.proofs.Gathered.{own_together, together_by_first}
 use Rattle.test_serve.proofs.served.serve_on.Goals as goal
 
 pub returns-in-Ok : goal.returns-in-Ok
