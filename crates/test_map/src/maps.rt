@@ -9,7 +9,6 @@ mod growing;
 mod images;
 mod limits;
 mod room;
-mod rounds;
 mod scans;
 mod seats;
 mod stamps;

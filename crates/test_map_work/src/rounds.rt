@@ -3,7 +3,8 @@
 ghost use Rattle.std.specs.Prelude.{◌≡◌, IfSome};
 ghost use Rattle.bl_map.specs.Maps.{AreSeatsOf};
 
-use bl_map::{Handle, Job, KeyReply, Map, Seat, Unworked, WorkFault};
+use bl_map::{Handle, KeyReply, Map, Seat};
+use bl_map_work::{Job, Unworked, WorkFault, work};
 use std::alloc::Global;
 use std::sync::Wait;
 use std::thread::Threads;
@@ -56,7 +57,7 @@ fn filled<R: Threads + Wait + Sync>(rt: &R, alloc: Global, most: u32) -> Option<
     let mut jobs = Vec::new(alloc);
     jobs.push(from_key(0)).ok()?;
     jobs.push(from_key(1)).ok()?;
-    let (map, mut seats, jobs) = map.work(rt, seats, jobs, most).ok()?;
+    let (map, mut seats, jobs) = work(rt, map, seats, jobs, most).ok()?;
     let rows = map.handle(seats.pop()?).count(rt, 0, None);
     let refused = jobs.iter().fold(0u64, |sum, job| sum.saturating_add(job.refused));
     Some((rows, refused))
@@ -84,7 +85,7 @@ fn fault<R: Threads + Wait + Sync>(rt: &R, alloc: Global) -> Option<WorkFault> {
     for key in 0..3u64 {
         jobs.push(from_key(key)).ok()?;
     }
-    match map.work(rt, seats, jobs, 1_024) {
+    match work(rt, map, seats, jobs, 1_024) {
         Err(Unworked::Kept(_map, _seats, _jobs, why)) => Some(why),
         Err(Unworked::Closed(_image, _jobs)) => None,
         Ok(_) => None,
