@@ -2,32 +2,16 @@
 //! prints what `bench_map index` prints. `index_twin large ROWS THREADS CALLS rising|random` does the load of `bench_map`, and prints what that
 //! prints of rows, finds and scans.
 
+#[path = "peers.d/drawn.rs"]
+mod drawn;
+
+use drawn::{WIDTH, row_of, scattered, width};
 use std::collections::BTreeMap;
 use std::env;
 use std::sync::RwLock;
 use std::sync::atomic::{AtomicU64, Ordering};
 use std::thread;
 use std::time::Instant;
-
-const WIDTH: u64 = 100;
-
-/// A number that looks random, another one for each: the key of a row, and what is drawn next.
-fn scattered(number: u64) -> u64 {
-    let first = number.wrapping_add(1).wrapping_mul(0x9e37_79b9_7f4a_7c15);
-    let second = (first ^ (first >> 30)).wrapping_mul(0xbf58_476d_1ce4_e5b9);
-    let third = (second ^ (second >> 27)).wrapping_mul(0x94d0_49bb_1331_11eb);
-    third ^ (third >> 31)
-}
-
-/// One of the rows.
-fn row_of(drawn: u64, rows: u64) -> u64 {
-    (drawn >> 8).checked_rem(rows).unwrap_or(0)
-}
-
-/// How far the ends of a scan of about 100 rows are apart.
-fn width(rows: u64) -> u64 {
-    u64::MAX / WIDTH / (rows / WIDTH + 1) * WIDTH
-}
 
 type Map = RwLock<BTreeMap<u64, u64>>;
 

@@ -1,32 +1,16 @@
 //! The load of `bench_map index` on concread's `BptreeMap`, a B+-tree of versions: readers see a snapshot, one writer at a time copies the nodes on
 //! its way. `concread_load ROWS THREADS FINDS MIXED SCANS` prints what `bench_map index` prints.
 
+#[path = "../../drawn.rs"]
+mod drawn;
+
 use concread::bptree::BptreeMap;
+use drawn::{row_of, scattered, width};
 use std::env;
 use std::sync::atomic::{AtomicU64, Ordering};
 use std::thread;
 
 type Map = BptreeMap<u64, u64>;
-
-const WIDTH: u64 = 100;
-
-/// A number that looks random, another one for each: the key of a row, and what is drawn next.
-fn scattered(number: u64) -> u64 {
-    let first = number.wrapping_add(1).wrapping_mul(0x9e37_79b9_7f4a_7c15);
-    let second = (first ^ (first >> 30)).wrapping_mul(0xbf58_476d_1ce4_e5b9);
-    let third = (second ^ (second >> 27)).wrapping_mul(0x94d0_49bb_1331_11eb);
-    third ^ (third >> 31)
-}
-
-/// One of the rows.
-fn row_of(drawn: u64, rows: u64) -> u64 {
-    (drawn >> 8).checked_rem(rows).unwrap_or(0)
-}
-
-/// How far the ends of a scan of about 100 rows are apart.
-fn width(rows: u64) -> u64 {
-    u64::MAX / WIDTH / (rows / WIDTH + 1) * WIDTH
-}
 
 fn insert(map: &Map, key: u64, value: u64) -> bool {
     let mut write = map.write();
