@@ -82,10 +82,8 @@ fn may_stand(first: &[u8], word: &[u8], place: usize) -> bool {
     let Some(form) = form_of(first) else {
         return false;
     };
-    if place <= 1 + form.numbers {
-        return place == 1 || number(word).is_some();
-    }
-    match place - form.numbers {
+    match place.saturating_sub(form.numbers) {
+        0 | 1 => place == 1 || number(word).is_some(),
         2 => form.has_limit && word == "limit".as_bytes(),
         3 => form.has_limit && is_limit(word),
         _ => false,
@@ -104,10 +102,10 @@ pub fn wrong_in(line: &[u8]) -> Wrong {
         if !may_stand(first, &rest[..end], place) {
             return Wrong::Word(place);
         }
-        if end == rest.len() {
-            return Wrong::Word(place + 1);
+        match rest.get(end.saturating_add(1)..) {
+            Some(behind) => rest = behind,
+            None => return Wrong::Word(place + 1),
         }
-        rest = &rest[end + 1..];
     }
     Wrong::Word(LINE_LIMIT)
 }
