@@ -35,6 +35,7 @@ pub(crate) fn image_within(
 type Reason = String;
 
 /// What a server saves goes into files of the system, each in the place of the one that was there.
+#[derive(Drop)]
 pub(crate) struct Saver<'a> {
     rt: &'a HostRuntime,
     /// An image has so many pages, or as many more as its rows need.
