@@ -272,11 +272,7 @@ impl Index {
     }
 
     /// An index with as many pages as a checked image, which goes.
-    fn made_of(
-        alloc: Global,
-        quiet: Quiet,
-        passes: u32,
-    ) -> Result<(Index, Vec<Pass>), AllocError>
+    fn made_of(alloc: Global, quiet: Quiet, passes: u32) -> Result<(Index, Vec<Pass>), AllocError>
         requires { (1 ≤ passes) × (passes ≤ 64) }
         ensures { IfOk result (λ t. IsReopened quiet.image.pages.items passes t.0 t.1.items) }
     {
