@@ -83,7 +83,7 @@ fn a_look_passes_by_full_chunks(rt: HostRuntime) -> Result<(), Fail> {
     let first = vec![in rt.alloc(); [1u64; 32]; 3_000]
         .ok()
         .ok_or("no memory")?;
-    let room = Room::new(rt.alloc(), Layout::of(5_000, 2), first.as_slice())?;
+    let room = Room::new(rt.alloc(), Layout::of(5_000, 2), &first)?;
     assert!(rt; room.has_spare(0, 10_016, 72, 1) && !room.has_spare(0, 10_016, 73, 1));
     assert!(rt; room.has_spare(0, 10_016, 1_096, 2) && !room.has_spare(0, 10_016, 1_097, 2));
     Ok(())
