@@ -45,7 +45,7 @@ fn words_at(bytes: &[u8], at: usize) -> [u64; 32] {
 fn count_in(bytes: &[u8], stored: usize) -> usize {
     let told = word_at(bytes, 8);
     if bytes.starts_with(b"BLNKIDX1") && told % KIND_UNIT == LARGE {
-        ((told / KIND_UNIT) as usize).clamp(stored, MOST_LARGE_PAGES as usize)
+        stored.max(((told / KIND_UNIT) as usize).min(MOST_LARGE_PAGES as usize))
     } else {
         stored
     }
