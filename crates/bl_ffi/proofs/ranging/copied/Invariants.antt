@@ -1,6 +1,6 @@
 use Rattle.std.proofs.Common.{◌≡◌, ◌++◌, length, map, take, drop}
 use Rattle.bl_ffi.specs.Told.{row_of}
-use Rattle.bl_ffi.proofs.ranging.written.Given as goal
+use Rattle.bl_ffi.proofs.ranging.copied.Given as goal
 
 abbrev pub invariant-loop-number : goal.invariant-loop-number
 invariant-loop-number l = record {
