@@ -18,7 +18,7 @@ use Rattle.bl_index.specs.Limits.{ScansSome}
 use Rattle.bl_index.specs.Meetings.{Meet}
 use Rattle.bl_index.specs.declared.scanning.ScanFault.{ScanFault}
 use Rattle.bl_map_calls.specs.Works.{Works, Adds, Swept, FoundNoRoom}
-use Rattle.bl_map_calls.specs.Tries.{WritesAtOnce, WritesNone, IsRefused, KeepsUp, HasNothingToDo}
+use Rattle.bl_map_tries.specs.Tries.{WritesAtOnce, WritesNone, IsRefused, KeepsUp, HasNothingToDo}
 use Rattle.bl_ffi_seats.specs.declared.seat.Seat.{Seat}
 
 -- what the index began with
@@ -87,7 +87,7 @@ pub record HasNotWritten (old new : Seat) : Type 0 where
 -- Upkeep was done, so many pieces of it, and then the seat has given back what was swapped out.
 pub record HasKeptUp (most : ℕ) (old new : Seat) : Type 0 where
   pub mid : Trail
-  pub keeps : KeepsUp (first_of_seat old) (seat_number old) most old.waiting new.waiting (seen_at old) mid
+  pub keeps : KeepsUp (first_of_seat old) (pages_of_seat old) (seat_number old) most old.waiting new.waiting old.walk new.walk (seen_at old) mid
   pub sweeps : Swept (first_of_seat old) (seat_number old) mid (seen_at new)
   pub swept : AllSwept new.pass
 
