@@ -193,7 +193,8 @@ int32_t blink_open_larger(const uint8_t *bytes, size_t length, uint32_t pages,
  *   BLINK_CLOSED      it was closed already */
 BLINK_INLINE int32_t blink_close(blink_seat *seat);
 
-/* How many bytes the image of a map of so many pages has: 32 + 256 * pages. */
+/* How many bytes the image of a map of so many pages has at most: 32 + 256 * pages. Up to
+ * 65,536 pages it has so many; of more those behind the last one in use are left out. */
 uint64_t blink_image_length(uint32_t pages);
 
 /* Closes a map by all its seats, and writes its image, as `blink` and blink_open_image
@@ -205,7 +206,7 @@ uint64_t blink_image_length(uint32_t pages);
  *   BLINK_SEATS_OPEN  a seat of the map is not among these: so a map of which blink_close
  *                     has closed a seat has no image any more; or somebody else has a
  *                     share, which no proof excludes
- *   BLINK_FEW_BYTES   `room` is too small: `*length` says how many bytes are needed
+ *   BLINK_FEW_BYTES   `room` is too small: `*length` says how many bytes suffice
  *   BLINK_NO_MEMORY   malloc refused
  *   BLINK_SEATS_LOST  all seats are closed, and there is no image: cannot happen as long
  *                     as only seats own the map, which is so today but not proved */
@@ -265,7 +266,7 @@ BLINK_INLINE int32_t blink_is_sparse(blink_seat *seat, bool *is_sparse);
  *   BLINK_BAD_ROWS    the keys do not rise
  *   BLINK_BAD_FILL    `fill` is not 1 to 14, or too little for so many rows
  *   BLINK_NO_ROOM     the rows need more pages
- *   BLINK_FEW_BYTES   `room` is too small: `*length` says how many bytes are needed
+ *   BLINK_FEW_BYTES   `room` is too small: `*length` says how many bytes suffice
  *   BLINK_NO_MEMORY   malloc refused */
 int32_t blink_image_of(const blink_row *rows, size_t count, uint32_t pages, uint32_t fill,
                        uint8_t *bytes, size_t room, uint64_t *length);

@@ -297,7 +297,7 @@ fn spelled(alloc: Global) -> Option<[u8; 32 + 256 * 64]> {
     }
     let seats = boxed(alloc, seat)?;
     let quiet = close(alloc, seats).ok()?;
-    if quiet.image().pages.len() != 64 {
+    if quiet.image().size() != 32 + 256 * 64 {
         return None;
     }
     let mut bytes = [0; 32 + 256 * 64];

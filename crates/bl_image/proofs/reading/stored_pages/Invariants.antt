@@ -2,7 +2,7 @@ use Rattle.std.proofs.Common.{◌≡◌, ℕ, ◌*◌, ◌<◌, length, take, dr
 use Rattle.std.specs.Prelude.{flat_map}
 use Rattle.std.specs.List.{AllByRecursion}
 use Rattle.bl_image.specs.Images.{page_words, page_bytes, Fits64, NamesBelow, ArePage, chunk}
-use Rattle.bl_image.proofs.reading.pages_in.Given as goal
+use Rattle.bl_image.proofs.reading.stored_pages.Given as goal
 
 abbrev pub invariant-loop-x : goal.invariant-loop-x
 invariant-loop-x l = record {
