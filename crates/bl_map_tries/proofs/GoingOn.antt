@@ -16,11 +16,11 @@ pub reached : (pages from to at new : ℕ) → to ≤ pages → to ≤ from + 40
     → ((from < new) × (new < pages) × (new ≤ from + 4096)) ⊎ ((new ≡ 0) × (pages ≤ from + 4096))
 reached pages from to at new within most some on upto whole goes over = elim (cases_lt at pages) [
   | inl less ↦ elim some [
-      | inl lt ↦ let is = goes less in let far = whole lt in let near = upto (omega (arith, lt)) in inl (omega (arith, is, far), omega (arith, is, less), omega (arith, is, near, most))
-      | inr none ↦ absurd (omega (arith, none, on, less))
-    ]
+    | inl lt ↦ let is = goes less in let far = whole lt in let near = upto (omega (arith, lt)) in inl (omega (arith, is, far), omega (arith, is, less), omega (arith, is, near, most))
+    | inr none ↦ absurd (omega (arith, none, on, less))
+  ]
   | inr past ↦ elim some [
-      | inl lt ↦ let near = upto (omega (arith, lt)) in inr (over (omega (arith, past)), omega (arith, past, near, most))
-      | inr none ↦ inr (over (omega (arith, past)), omega (arith, none))
-    ]
+    | inl lt ↦ let near = upto (omega (arith, lt)) in inr (over (omega (arith, past)), omega (arith, past, near, most))
+    | inr none ↦ inr (over (omega (arith, past)), omega (arith, none))
+  ]
 ]

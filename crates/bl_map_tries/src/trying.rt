@@ -13,11 +13,11 @@ ghost use Rattle.bl_map_calls.specs.Follows.{Lowers};
 ghost use Rattle.bl_map_tries.specs.Tries.{StopsLowering, TriesHint, TriesNext, TriesPieces, Mends, LooksForRoom, IsRefused, WritesAtOnce, WritesNone};
 ghost use Rattle.bl_map_tries.specs.Tries.{HasNothingToDo, WalksOn, LooksOn, KeepsUp, is_done, left_behind, left_of};
 
+use crate::walking::Walk;
+use bl_index::{Hint, Index, KeyReply, KeyWrite, Lowered, Pass, Posted, Squeezed};
 use bl_map_calls::calls::note_change;
 use bl_map_calls::room::{Extent, wants_walk};
 use bl_map_calls::upkeep::{Followed, Want, lacks, may_fall, sweep_if_due};
-use crate::walking::Walk;
-use bl_index::{Hint, Index, KeyReply, KeyWrite, Lowered, Pass, Posted, Squeezed};
 use bl_waiting::Waiting;
 
 /// How often a call sweeps at most for what the pass lacks.

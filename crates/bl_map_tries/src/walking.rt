@@ -4,9 +4,9 @@ ghost use Rattle.std.specs.Prelude.{◌≡◌, ◌↔◌, ◌⊎◌, ◌+◌, �
 ghost use Rattle.bl_index.specs.Calls.{pages_of};
 ghost use Rattle.bl_map_calls.specs.declared.room.Extent.TheVariants as extents;
 
+use bl_index::{Hint, Index, Pass};
 use bl_map_calls::room::{Extent, PIECE, WALKS, is_enough, wants_walk};
 use bl_map_calls::upkeep::WAITS_FOR_ROOM;
-use bl_index::{Hint, Index, Pass};
 use bl_waiting::Waiting;
 
 /// So many pages a call looks at at most, where not each hand may find one, or where all are to be looked at: it is to take no time that
