@@ -12,7 +12,7 @@ ghost use Rattle.bl_ffi_seats.specs.Opened.{AreSeatsOf, AreSeatsOpened, AreReope
 use crate::seat::Seat;
 use bl_check::{Fault, Quiet, load};
 use bl_index::{Config, Index, OpenFault, Pass};
-use bl_map_calls::walking::Walk;
+use bl_map_tries::walking::Walk;
 use bl_waiting::Waiting;
 use std::alloc::{AllocError, Global};
 use std::sync::Arc;
