@@ -49,6 +49,19 @@ pub one_moved : {A : Type 0} (xs now ys left zs : List A) (y : A) → ys ≡ y �
 one_moved xs now ys left zs y next is whole =
     ap (λ (z : List _). z ++ left) is ∙ (append_assoc xs (y ∷ []) left ∙ (ap (λ (z : List _). xs ++ z) (sym next) ∙ whole))
 
+-- the first of the seats and the first of the tasks are a worker's now
+pub seats_moved : {J : Type 0} (workers now : List (Worker J)) (seats left all : List Pass) (seat : Pass) (worker : Worker J)
+    → seats ≡ seat ∷ left → now ≡ workers ++ worker ∷ [] → seat_of worker.handle ≡ seat → seats_of workers ++ seats ≡ all → seats_of now ++ left ≡ all
+seats_moved workers now seats left all seat worker next is same whole =
+    one_moved (seats_of workers) (seats_of now) seats left all seat next
+        (ap (λ (z : List (Worker _)). seats_of z) is ∙ (seats_more workers (worker ∷ []) ∙ ap (λ (z : Pass). seats_of workers ++ z ∷ []) same)) whole
+
+pub tasks_moved : {J : Type 0} (workers now : List (Worker J)) (tasks left all : List (Task J)) (task : Task J) (worker : Worker J)
+    → tasks ≡ task ∷ left → now ≡ workers ++ worker ∷ [] → worker.task ≡ task → tasks_of workers ++ tasks ≡ all → tasks_of now ++ left ≡ all
+tasks_moved workers now tasks left all task worker next is same whole =
+    one_moved (tasks_of workers) (tasks_of now) tasks left all task next
+        (ap (λ (z : List (Worker _)). tasks_of z) is ∙ (tasks_more workers (worker ∷ []) ∙ ap (λ (z : Task _). tasks_of workers ++ z ∷ []) same)) whole
+
 -- a worker's seat is of the index that it works on
 own_seat : {J : Type 0} (whole : Map) (worker : Worker J) → index_of worker.handle ≡ whole.index → IsPassOf whole.index (seat_of worker.handle)
 own_seat whole worker same = subst (λ i. IsPassOf i (seat_of worker.handle)) same worker.handle.own
