@@ -27,11 +27,11 @@ pub(crate) fn save<R: Wait, G: Gate>(
     let service = chunk.service;
     let mut rows = Vec::new(service.alloc);
     handle.scan(rt, 0, None, &mut rows)?;
-    let name = chunk.file_name(number);
-    if !service.gate.save(name, rows.as_slice()) {
+    let list = rows.as_slice();
+    if !service.gate.save(chunk.file_name(number), list) {
         return push_word_line(text, number, b"unsaved");
     }
-    let count = rows.len() as u64;
+    let count = list.len() as u64;
     push_number(text, b"", number)?;
     push_number(text, b" saved ", count)?;
     text.push(b'\n')?;
