@@ -3,3 +3,4 @@ pub mod Made
 pub mod Closings
 pub mod PartReplies
 mod Written
+pub mod Listed
