@@ -3,4 +3,3 @@ pub mod Made
 pub mod Closings
 pub mod PartReplies
 mod Written
-pub mod Listed

@@ -3,11 +3,9 @@
 ghost use Rattle.std.specs.Prelude.{◌≡◌, ◌-◌, [], MatchResult, vec_len};
 ghost use Rattle.std.specs.Vec.{vec_capacity};
 ghost use Rattle.bl_index_read.specs.LeafRows.{IsBelow};
-ghost use Rattle.bl_index.specs.Calls.{first_of, pages_of, IsPassOf, IsSamePass, number_of, trail};
-ghost use Rattle.bl_index.specs.Limits.{ScansSome};
 
 use crate::seat::Seat;
-use bl_index::{Direction, Index, Kept, Pass, RangeFault, RangeLimits, ScanFault, ScanLimits};
+use bl_index::{Direction, Kept, RangeFault, RangeLimits, ScanFault, ScanLimits};
 use std::alloc::Global;
 
 /// Before rows are read, room is made for so many rows at most, and for the leaves that they half fill: vectors that grow meanwhile take
@@ -35,25 +33,6 @@ fn room_for_leaves(alloc: Global, most: usize) -> Vec<Kept>
         Ok(leaves) => leaves,
         Err(_) => Vec::new(alloc),
     }
-}
-
-/// [`Index::scan_some`], as a function of its own: where it is part of a larger one, what the index lends is read again after each word of a leaf.
-#[inline(never)]
-fn list(
-    index: &Index,
-    pass: &mut Pass,
-    direction: Direction,
-    from: u64,
-    to: Option<u64>,
-    limits: ScanLimits,
-    rows: &mut Vec<(u64, u64)>,
-) -> Result<Option<u64>, ScanFault>
-    requires { IsPassOf index.now pass.old }
-    ensures same { IsSamePass pass.old pass.new }
-    ensures scans { ScansSome (first_of index.now) (pages_of index.now) (number_of pass.old) limits.turns direction from to limits.most
-        (vec_capacity rows.new - vec_len rows.new) result rows.old.items rows.new.items (trail pass.old) (trail pass.new) }
-{
-    index.scan_some(pass, direction, from, to, limits, rows)
 }
 
 impl Seat {
@@ -110,15 +89,9 @@ impl Seat {
             turns: self.index.patience(),
         };
         let mut rows = room_for_rows(alloc, most);
-        let told = list(
-            &self.index,
-            &mut self.pass,
-            direction,
-            from,
-            to,
-            limits,
-            &mut rows,
-        );
+        let told = self
+            .index
+            .scan_some(&mut self.pass, direction, from, to, limits, &mut rows);
         (rows, told)
     }
 }
