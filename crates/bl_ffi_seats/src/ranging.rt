@@ -69,6 +69,7 @@ impl Seat {
             Err(fault) => Err(fault),
         }
     }
+
     /// The first rows from a key on that lie before an end, if there is one, so many at most. Beside them stands where the next ones begin, or
     /// `None` where the scan is over; or why it stopped, and from which key it goes on. It makes room at first for so many.
     pub fn scan(
