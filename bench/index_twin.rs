@@ -1,6 +1,6 @@
 //! The load of `bench_map index` on a plain Rust `RwLock<BTreeMap>`, for comparison. `index_twin ROWS THREADS FINDS MIXED SCANS`
 //! prints what `bench_map index` prints. `index_twin large ROWS THREADS CALLS rising|random` does the load of `bench_map`, and prints what that
-//! prints of rows, finds and scans.
+//! prints of rows, finds and scans; with 0 for CALLS nine of ten rows are deleted in place of the searches, and those that are left are counted.
 
 #[path = "peers.d/drawn.rs"]
 mod drawn;
@@ -12,6 +12,9 @@ use std::sync::RwLock;
 use std::sync::atomic::{AtomicU64, Ordering};
 use std::thread;
 use std::time::Instant;
+
+/// Of so many rows one stays.
+const KEPT: u64 = 10;
 
 type Map = RwLock<BTreeMap<u64, u64>>;
 
@@ -130,6 +133,15 @@ impl Large {
         println!("{part} {calls} {done} {} 0", start.elapsed().as_micros());
     }
 
+    /// Deletes all rows but one of ten.
+    fn thin_out(&self, map: &Map) {
+        self.timed("gone", self.rows, |place| {
+            let rows = (place..self.rows).step_by(self.threads as usize);
+            rows.filter(|row| row % KEPT == 0 || map.write().unwrap().remove(&self.key(*row)) == Some(*row)).count() as u64
+        });
+        println!("left {} {} 0 0", self.rows.div_ceil(KEPT), map.read().unwrap().len());
+    }
+
     fn run(&self) {
         let map = RwLock::new(BTreeMap::new());
         let turns = self.calls / self.threads;
@@ -138,6 +150,10 @@ impl Large {
             let rows = (place..self.rows).step_by(self.threads as usize);
             rows.filter(|row| insert(&map, self.key(*row), *row)).count() as u64
         });
+        if self.calls == 0 {
+            self.thin_out(&map);
+            return;
+        }
         self.timed("finds", self.calls, |place| {
             let mut seed = scattered(place);
             let draw = (0..turns).map(|_| {

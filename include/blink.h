@@ -158,10 +158,11 @@ typedef struct blink_stats {
 
 /* Opens a map without rows, of so many pages, with a seat for each of the `count` places.
  * A page holds up to 14 rows, and some are kept for the tree and for changes underway:
- * plan a page for each 6 rows. All places have to be closed before; with every answer
- * but BLINK_OK they are as they were, here and below.
+ * plan a page for each 6 rows. With 0 pages it has 1,024, for a map that blink_resize
+ * lets grow. All places have to be closed before; with every answer but BLINK_OK they
+ * are as they were, here and below.
  *   BLINK_OK          all places are open
- *   BLINK_BAD_PAGES   `pages` is not 4 to 2^28
+ *   BLINK_BAD_PAGES   `pages` is neither 0 nor 4 to 2^28
  *   BLINK_BAD_SEATS   `count` is not 1 to 64
  *   BLINK_IN_USE      a place has an open seat, which blink_close closes
  *   BLINK_NO_MEMORY   malloc refused */

@@ -7,9 +7,6 @@
 #include "blink.hpp"
 #include "large.h"
 
-// Of so many rows one stays.
-constexpr u64 KEPT = 10;
-
 template <class Work> void part(const Large& load, const char* name, blink::Map& map, Work work) {
     std::atomic<u64> longest{0};
     auto begun = std::chrono::steady_clock::now();

@@ -1,5 +1,6 @@
 // The load of `bench_map` on another map: PEER large ROWS THREADS CALLS rising|random prints what `bench_map` prints of rows, finds and scans:
-// part, calls, how many were answered as they should be, and the microseconds of all together. The keys are the same.
+// part, calls, how many were answered as they should be, and the microseconds of all together. The keys are the same. With 0 for CALLS nine of ten
+// rows are deleted in place of the searches, and those that are left are looked for.
 #pragma once
 #include <algorithm>
 #include <chrono>
@@ -24,6 +25,26 @@ inline void timed(const Large& load, const char* part, u64 calls, const std::fun
     std::fflush(stdout);
 }
 
+// Whether rows of the peer can be deleted by several threads.
+template <class Peer> constexpr bool erases = true;
+
+// Of so many rows one stays.
+constexpr u64 KEPT = 10;
+
+template <class Peer> void thin_out(const Large& load, Peer& peer) {
+    if constexpr (erases<Peer>) {
+        timed(load, "gone", load.rows, [&](u64 place) {
+            u64 done = 0;
+            for (u64 row = place; row < load.rows; row += load.threads, done++)
+                if (row % KEPT) peer.erase(load.key(row));
+            return done;
+        });
+        u64 left = 0, value;
+        for (u64 row = 0; row < load.rows; row++) left += peer.find(load.key(row), value);
+        std::printf("left %llu %llu 0 0\n", (unsigned long long)((load.rows + KEPT - 1) / KEPT), (unsigned long long)left);
+    }
+}
+
 template <class Peer> int large(char** words) {
     const Large load{std::strtoull(words[2], nullptr, 10), std::max(1ull, std::strtoull(words[3], nullptr, 10)), std::strtoull(words[4], nullptr, 10),
                      !std::strcmp(words[5], "rising")};
@@ -33,6 +54,10 @@ template <class Peer> int large(char** words) {
         for (u64 row = place; row < load.rows; row += load.threads) done += peer.insert(load.key(row), row);
         return done;
     });
+    if (!load.calls) {
+        thin_out(load, peer);
+        return 0;
+    }
     timed(load, "finds", load.calls, [&](u64 place) {
         u64 done = 0, seed = scattered(place), value;
         for (u64 call = 0; call < load.calls / load.threads; call++) {

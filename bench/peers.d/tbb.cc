@@ -22,4 +22,6 @@ struct Map {
     }
 };
 
+template <> constexpr bool erases<Map> = false;
+
 int main(int count, char** words) { return loads<Map>(count, words); }

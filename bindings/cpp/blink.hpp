@@ -655,7 +655,7 @@ public:
     // One of 4 to 2^28 pages (plan one for each six rows), which only resize() changes.
     Map(uint32_t pages, size_t handles) : seats_(made(handles)) {
         opened(seats_->with_seats([pages](blink_seat *seats, size_t count) {
-            return blink_open(pages, seats, count);
+            return pages == 0 ? BLINK_BAD_PAGES : blink_open(pages, seats, count);
         }));
         seats_->pages = pages;
         seats_->grows = false;

@@ -40,8 +40,9 @@ static void texts(void) {
 }
 
 static void limits(void) {
+    blink_stats stats = {0, 0, 0, 0, 0, 0, 0};
     int32_t fault;
-    WANT(blink_open(0, seats, 1), BLINK_BAD_PAGES);
+    WANT(blink_open(1, seats, 1), BLINK_BAD_PAGES);
     WANT(blink_open(3, seats, 1), BLINK_BAD_PAGES);
     WANT(blink_open((1u << 28) + 1, seats, 1), BLINK_BAD_PAGES);
     WANT(blink_open(UINT32_MAX, seats, 1), BLINK_BAD_PAGES);
@@ -51,6 +52,10 @@ static void limits(void) {
     fault = blink_open(3, seats, 65);
     HOLDS(fault == BLINK_BAD_PAGES || fault == BLINK_BAD_SEATS);
     HOLDS(!seats[0].at && !seats[64].at);
+    WANT(blink_open(0, seats, 1), BLINK_OK);
+    WANT(blink_stat(&seats[0], false, &stats), BLINK_OK);
+    HOLDS(stats.pages == 1024);
+    WANT(blink_close(&seats[0]), BLINK_OK);
     HOLDS(blink_image_length(0) == 32 && blink_image_length(UINT32_MAX) == 32 + 256 * (uint64_t)UINT32_MAX);
 }
 

@@ -1,10 +1,11 @@
 /* Writes down calls of maps through blink.h, as `bench_map record` does for the library in Rattle, for the checker of checks/linearizable:
- * record SECONDS PAGES THREADS KEYS CALLS SEED OFTEN. One map after the other is opened, for so many seconds, and one at least. In each of the
+ * record SECONDS PAGES THREADS KEYS CALLS SEED OFTEN. One map after the other is opened, for so many seconds, and two at least. In each of the
  * three rounds of a map so many threads make so many calls each, on few keys: searches, insertions, puts, deletions, changes, and scans of
  * some keys side by side, which tell of each key that they pass; and blink_add and blink_update, of which what they have done is written
  * down, an insertion or a change. One in OFTEN answers BLINK_AGAIN lets a thread give its call up and make another one; with 0 nothing is
  * given up. What was given up has not been done, so no line tells of it: had it been, the others would have no order. Behind a round the map is
- * closed to its image, and opened anew from that; but in the third one each thread other than the first gives a write up half-way and
+ * closed to its image, and opened anew from that; every second map gets twice its pages behind the first round instead, and its own number again
+ * behind the second one. In the third one each thread other than the first gives a write up half-way and
  * goes, and its seat lies idle from then on, or is closed by itself, or by the main thread. The next map has other keys. A line is printed for each call:
  * the thread, the nanoseconds right before the call and right behind it, the key, what was asked, and what was answered; and behind each
  * round the line `round`. At the end it says on standard error how often what has happened. */
@@ -35,7 +36,7 @@ typedef struct worker {
 
 static worker workers[MOST];
 static blink_seat seats[MOST];
-static uint64_t first_key, keys, calls_each, often, maps, closed_midway;
+static uint64_t first_key, keys, calls_each, often, maps, closed_midway, resized;
 static uint32_t pages;
 static int threads, round_of_map;
 
@@ -197,13 +198,31 @@ static void open_anew(uint8_t *bytes) {
     if (answer != BLINK_OK) fail("close and open", answer);
 }
 
+/* Gives the map twice its pages behind its first round, and as many as it had behind the next one. */
+static void resize(uint8_t *bytes) {
+    const size_t room = (size_t)blink_image_length(2 * pages), most = (size_t)keys + 1;
+    uint64_t length = 0;
+    int32_t answer;
+    if (round_of_map == 0) {
+        answer = blink_resize(seats, (size_t)threads, 2 * pages, bytes, room, &length);
+    } else {
+        blink_row *rows = malloc(most * sizeof *rows);
+        answer = rows ? blink_shrink(seats, (size_t)threads, pages, rows, most, bytes, room) : BLINK_NO_MEMORY;
+        free(rows);
+    }
+    if (answer != BLINK_OK) fail("resize", answer);
+    resized++;
+}
+
 static void run_map(uint8_t *bytes) {
     int32_t answer = blink_open(pages, seats, (size_t)threads);
     if (answer != BLINK_OK) fail("open", answer);
     for (round_of_map = 0; round_of_map < ROUNDS; round_of_map++) {
         run_round();
         print_round();
-        if (round_of_map + 1 < ROUNDS) open_anew(bytes);
+        if (round_of_map + 1 == ROUNDS) break;
+        if (maps % 2) resize(bytes);
+        else open_anew(bytes);
     }
     for (int t = 0; t < threads; t++) {
         answer = blink_close(&seats[t]);
@@ -222,7 +241,7 @@ int main(int count, char **words) {
     keys = strtoull(words[4], NULL, 10);
     calls_each = strtoull(words[5], NULL, 10);
     often = strtoull(words[7], NULL, 10);
-    uint8_t *bytes = malloc((size_t)blink_image_length(pages));
+    uint8_t *bytes = malloc((size_t)blink_image_length(2 * pages));
     if (!bytes || threads < 1 || threads > MOST) return 2;
     for (int t = 0; t < threads; t++) {
         workers[t].seat = &seats[t];
@@ -231,13 +250,14 @@ int main(int count, char **words) {
         workers[t].calls = malloc((calls_each + SPAN) * sizeof(call));
         if (!workers[t].calls) return 2;
     }
+    /* One that is resized, and one that is not. */
     do run_map(bytes);
-    while (now() < until);
+    while (now() < until || maps < 2);
     for (int t = 0; t < threads; t++) {
         given_up += workers[t].given_up;
         free(workers[t].calls);
     }
     free(bytes);
-    fprintf(stderr, "%" PRIu64 " maps, %" PRIu64 " calls given up, %" PRIu64 " seats closed midway\n", maps, given_up, closed_midway);
+    fprintf(stderr, "%" PRIu64 " maps, resized %" PRIu64 " times, %" PRIu64 " calls given up, %" PRIu64 " seats closed midway\n", maps, resized, given_up, closed_midway);
     return 0;
 }

@@ -3,15 +3,19 @@
 //! In each round so many threads make so many calls each, on few keys: searches, insertions, puts, deletions, changes, and
 //! short scans, which tell of each key that they pass. Then all threads are joined, and a line is printed for each call: the thread, the
 //! nanoseconds right before the call and right behind it, the key, what was asked, and what was answered; and behind them the line
-//! `round`. Behind every fourth round the map is closed and opened from its image; where there is no memory for that, once more. With
-//! `count` in place of `calls` only the number of calls is printed, which is the same whatever the threads do.
+//! `round`. Of four rounds one stands before a growth by two, one before a shrink, and one before a close, behind which the map is opened
+//! from its image; where there is no memory for that, it is tried once more, or the map goes on with the pages that it has. With `count` in
+//! place of `calls` only the number of calls is printed, which is the same whatever the threads do.
 
 ghost use Rattle.std.specs.Prelude.{◌≡◌, All, IfSome, IfOk};
 ghost use Rattle.bl_map.specs.Maps.{AreSeatsOf};
 ghost use Rattle.bench_map.specs.Workers.{IsOf};
 
 use bl_check::Quiet;
-use bl_map::{CloseFault, Handle, KeyReply, Map, OpenFault, Seat};
+use bl_map::{
+    CloseFault, Handle, KeyReply, LoadFault, Map, MapLoadFault, OpenFault, Seat, UnresizedMap,
+    UnshrunkMap,
+};
 use std::alloc::{AllocError, Global};
 use std::io::{BufWriter, Eprint, Print, Write};
 use std::rt::Clock;
@@ -26,7 +30,7 @@ const MOST_THREADS: usize = 64;
 /// How many keys a scan passes.
 const LISTED: u64 = 4;
 
-/// After so many rounds the map is closed and opened again.
+/// After so many rounds comes what came between two of them once more.
 const OPEN_FOR: u64 = 4;
 
 /// What is to be done.
@@ -382,7 +386,60 @@ fn opened(alloc: Global, image: Quiet, threads: u32, tried: &mut u64) -> Option<
     }
 }
 
-/// A map and its seats, as it is or closed and opened from its image.
+/// The map with twice the pages that it began with. Where there is no memory for them, it is tried once more, or the map is opened from its
+/// image, which is counted.
+fn grown(
+    alloc: Global,
+    map: Map,
+    seats: Vec<Seat>,
+    load: Load,
+    tried: &mut u64,
+) -> Option<(Map, Vec<Seat>)>
+    requires { AreSeatsOf map seats.items }
+    ensures { IfSome result (λ t. AreSeatsOf t.0 t.1.items) }
+{
+    let pages = load.pages.saturating_mul(2);
+    match map.resize(alloc, seats, pages) {
+        Ok(resized) => Some(resized),
+        Err(UnresizedMap::Kept(map, seats, _)) => {
+            *tried = tried.saturating_add(1);
+            map.resize(alloc, seats, pages).ok()
+        }
+        Err(UnresizedMap::Closed(image)) => {
+            *tried = tried.saturating_add(1);
+            opened(alloc, image, load.threads, tried)
+        }
+    }
+}
+
+/// The map with the pages that it began with, unless its rows want more. Where there is no memory for that, it is tried once more, or the map
+/// is opened from its image, which is counted.
+fn shrunk(
+    alloc: Global,
+    map: Map,
+    seats: Vec<Seat>,
+    load: Load,
+    tried: &mut u64,
+) -> Option<(Map, Vec<Seat>)>
+    requires { AreSeatsOf map seats.items }
+    ensures { IfSome result (λ t. AreSeatsOf t.0 t.1.items) }
+{
+    match map.shrink(alloc, seats, load.pages) {
+        Ok(shrunk) => Some(shrunk),
+        Err(UnshrunkMap::Kept(map, seats, _)) => {
+            *tried = tried.saturating_add(1);
+            map.shrink(alloc, seats, load.pages).ok()
+        }
+        Err(UnshrunkMap::Closed(image, why)) => {
+            if why != MapLoadFault::Rows(LoadFault::Room) {
+                *tried = tried.saturating_add(1);
+            }
+            opened(alloc, image, load.threads, tried)
+        }
+    }
+}
+
+/// A map and its seats behind a round: as it is, grown, shrunk, or closed and opened from its image.
 fn kept(
     alloc: Global,
     map: Map,
@@ -393,11 +450,15 @@ fn kept(
     requires { AreSeatsOf map seats.items }
     ensures { IfSome result (λ t. AreSeatsOf t.0 t.1.items) }
 {
-    if round.number % OPEN_FOR != OPEN_FOR - 1 {
-        return Some((map, seats));
+    match round.number % OPEN_FOR {
+        0 => Some((map, seats)),
+        1 => grown(alloc, map, seats, round.load, tried),
+        2 => shrunk(alloc, map, seats, round.load, tried),
+        _ => {
+            let image = closed(alloc, map, seats, tried)?;
+            opened(alloc, image, round.load.threads, tried)
+        }
     }
-    let image = closed(alloc, map, seats, tried)?;
-    opened(alloc, image, round.load.threads, tried)
 }
 
 /// A map without rows.

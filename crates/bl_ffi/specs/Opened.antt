@@ -1,5 +1,5 @@
 -- A map is opened for C.
-use Rattle.std.specs.Prelude.{◌≡◌, ◌⊎◌, ◌<◌, ◌^◌, ℕ, ℤ, pos, List, Option, length}
+use Rattle.std.specs.Prelude.{◌≡◌, ◌⊎◌, ◌<◌, ◌^◌, ◌==◌, if◌then◌else◌, ℕ, ℤ, pos, List, Option, length}
 use Rattle.bl_check.specs.Faults.{AreSoundImage}
 use Rattle.bl_ffi_seats.specs.declared.seat.Seat.{Seat}
 use Rattle.bl_image.specs.Images.{IsImage}
@@ -24,6 +24,10 @@ AreRefused places code = ((code ≡ pos 6) × AreBadSeats (length places)) ⊎ (
 -- Why no map of so many pages was opened: the pages are not within their limits; or the places are refused.
 abbrev pub IsNotOpened : ℕ → List (Option Seat) → ℤ → Type 0
 IsNotOpened pages places code = ((code ≡ pos 5) × ((pages < 4) ⊎ (2 ^ 28 < pages))) ⊎ AreRefused places code
+
+-- so many pages, or those that a map begins with that is to grow, where none are named
+abbrev pub or_first : ℕ → ℕ
+or_first pages = if pages == 0 then 1024 else pages
 
 -- The places, which were closed, have the seats of one new map without rows; or none was opened, and they are as they were.
 abbrev pub Opens : ℕ → List (Option Seat) → List (Option Seat) → ℤ → Type 0

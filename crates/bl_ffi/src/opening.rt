@@ -2,7 +2,7 @@
 
 ghost use Rattle.std.specs.Prelude.{◌≡◌, length, IfOk};
 ghost use Rattle.bl_ffi_seats.specs.Closed.{values};
-ghost use Rattle.bl_ffi.specs.Opened.{Opens, OpensImage, OpensLarger, AreHandedOut, IsCodeOfImage};
+ghost use Rattle.bl_ffi.specs.Opened.{Opens, OpensImage, OpensLarger, AreHandedOut, IsCodeOfImage, or_first};
 ghost use Rattle.bl_ffi.specs.Places.{seats_in, closed};
 
 use crate::codes::{BAD_IMAGE, BAD_PAGES, BAD_SEATS, IN_USE, NO_MEMORY, OK};
@@ -10,6 +10,16 @@ use crate::places::{is_any_open, put_all};
 use crate::seat::SeatOfC;
 use bl_ffi_seats::{ImageFault, OpenFault, Seat, open, open_image, open_larger};
 use std::alloc::{AllocError, Global};
+
+/// A map that is to grow begins with so many pages.
+const FIRST_PAGES: u32 = 1_024;
+
+/// So many pages, or those of a map that is to grow, where none are named.
+fn or_first(pages: u32) -> u32
+    ensures { result ≡ or_first pages }
+{
+    if pages == 0 { FIRST_PAGES } else { pages }
+}
 
 /// Boxes for the seats, before any is handed out.
 fn boxed(alloc: Global, seats: Vec<Seat>) -> Result<Vec<Box<Seat, Global>>, AllocError>
@@ -39,10 +49,10 @@ fn hand_out(alloc: Global, seats: Vec<Seat>, places: &mut [SeatOfC]) -> i32
     OK
 }
 
-/// Opens an index without rows, with a seat for each place, all of which are closed.
+/// Opens an index without rows, with a seat for each place, all of which are closed. With 0 pages it has 1,024, for who has it grow.
 #[unsafe(no_mangle)]
 pub extern "C" fn blink_open(alloc: Global, pages: u32, seats: &mut [SeatOfC]) -> i32
-    ensures { Opens pages (seats_in seats.old) (seats_in seats.new) result }
+    ensures { Opens (or_first pages) (seats_in seats.old) (seats_in seats.new) result }
 {
     if seats.len() > 64 {
         return BAD_SEATS;
@@ -50,7 +60,7 @@ pub extern "C" fn blink_open(alloc: Global, pages: u32, seats: &mut [SeatOfC]) -
     if is_any_open(alloc, seats) {
         return IN_USE;
     }
-    match open(alloc, pages, seats.len() as u32) {
+    match open(alloc, or_first(pages), seats.len() as u32) {
         Ok(opened) => hand_out(alloc, opened, seats),
         Err(OpenFault::Pages) => BAD_PAGES,
         Err(OpenFault::Passes) => BAD_SEATS,

@@ -183,7 +183,7 @@ class Map(MutableMapping[int, int]):
         made = _new("shim_map **")
         if _is_orphan:
             raise Error("the library cannot be used in the child of a fork of a program with threads: spawn it")
-        if not 0 <= index(pages) < 2**32 or not 0 <= index(seats) < 2**32:
+        if not 0 < index(pages) < 2**32 or not 0 <= index(seats) < 2**32:
             raise ValueError(f"a map has 4 to 2**28 pages and 1 to 64 seats, not {pages} and {seats}")
         bytes_ = ffi.NULL if image is None else ffi.from_buffer("uint8_t[]", image)
         code = lib.shim_open(pages, _MOST_PAGES if grows else 0, seats, bytes_, 0 if image is None else len(bytes_), made)

@@ -3,9 +3,10 @@
 //! One map after the other is opened, for so many seconds, and one at least. In each of the three rounds of a map so many threads
 //! make so many calls each, through handles, on few keys: searches, insertions, puts, deletions, changes, updates, which are told as
 //! changes, and ranges of some keys, up and down, which tell of each key that they pass. Meanwhile the map gets some more pages each few
-//! milliseconds. Behind a round it is closed to its image and opened from that. The next map has other keys. A line is printed for each call: the thread, the nanoseconds right before the call and right behind it, the key,
-//! what was asked and what was answered; and behind each round the line `round`.
-use blink::{ExchangeError, Handle, Map, NoRoom};
+//! milliseconds. Behind a round it is closed to its image and opened from that: from then on it shrinks by itself, and gets many more pages each
+//! time that it has, so that there is more to shrink. The next map has other keys. A line is printed for each call: the thread, the nanoseconds
+//! right before the call and right behind it, the key, what was asked and what was answered; and behind each round the line `round`.
+use blink::{ExchangeError, Handle, Map, NoRoom, ResizeError};
 use std::io::{self, BufWriter, Write};
 use std::sync::atomic::{AtomicBool, AtomicU64, Ordering};
 use std::time::{Duration, Instant};
@@ -18,8 +19,13 @@ const SPAN: u64 = 24;
 const MORE_PAGES: u32 = 16;
 const PAUSE: Duration = Duration::from_millis(3);
 
-/// How often a map was given more pages.
+/// A map that shrinks by itself does so down to so many, and gets so many then.
+const LEAST_PAGES: u32 = 1024;
+const MANY_PAGES: u32 = 4096;
+
+/// How often a map was given more pages, and how often it was found with fewer.
 static RESIZES: AtomicU64 = AtomicU64::new(0);
+static SHRINKS: AtomicU64 = AtomicU64::new(0);
 
 /// A line without its thread.
 type Line = (u64, u64, u64, String);
@@ -143,17 +149,26 @@ impl Worker {
     }
 }
 
-/// Gives the map more pages, now and then, until the others have ended.
-fn resize(map: &Map, is_over: &AtomicBool) {
+/// Gives the map more pages, now and then, until the others have ended; many more where it shrinks by itself, and has shrunk.
+fn resize(map: &Map, shrinks: bool, is_over: &AtomicBool) {
+    let mut last = map.pages();
     while !is_over.load(Ordering::SeqCst) {
         std::thread::sleep(PAUSE);
-        map.resize(map.pages() + MORE_PAGES).expect("memory for more pages");
-        RESIZES.fetch_add(1, Ordering::SeqCst);
+        let pages = map.pages();
+        SHRINKS.fetch_add((pages < last) as u64, Ordering::SeqCst);
+        last = if shrinks && pages <= LEAST_PAGES { MANY_PAGES } else { pages + MORE_PAGES };
+        match map.resize(last) {
+            Ok(()) => RESIZES.fetch_add(1, Ordering::SeqCst),
+            // It has grown by itself meanwhile.
+            Err(ResizeError::Pages) => 0,
+            Err(why) => panic!("{}", why),
+        };
     }
 }
 
 fn round(
     map: &Map,
+    shrinks: bool,
     workers: &mut [Worker],
     keys: &std::ops::Range<u64>,
     calls: usize,
@@ -161,7 +176,7 @@ fn round(
 ) -> Vec<Vec<Line>> {
     let is_over = AtomicBool::new(false);
     std::thread::scope(|scope| {
-        scope.spawn(|| resize(map, &is_over));
+        scope.spawn(|| resize(map, shrinks, &is_over));
         let threads: Vec<_> = workers
             .iter_mut()
             .map(|worker| {
@@ -194,7 +209,9 @@ fn main() -> Result<(), Box<dyn std::error::Error>> {
     while maps == 0 || start.elapsed() < Duration::from_secs(seconds) {
         let mut map = Map::new(pages, threads as usize)?;
         for number in 0..ROUNDS {
-            for (thread, lines) in round(&map, &mut workers, &(first..first + keys), calls, start).iter().enumerate() {
+            for (thread, lines) in
+                round(&map, number > 0, &mut workers, &(first..first + keys), calls, start).iter().enumerate()
+            {
                 lines.iter().try_for_each(|(begin, end, key, told)| {
                     writeln!(out, "{} {} {} {} {}", thread, begin, end, key, told)
                 })?;
@@ -208,6 +225,6 @@ fn main() -> Result<(), Box<dyn std::error::Error>> {
         maps += 1;
     }
     out.flush()?;
-    eprintln!("{} maps, {} resizes", maps, RESIZES.load(Ordering::SeqCst));
+    eprintln!("{} maps, {} resizes, {} shrinks", maps, RESIZES.load(Ordering::SeqCst), SHRINKS.load(Ordering::SeqCst));
     Ok(())
 }

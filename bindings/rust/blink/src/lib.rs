@@ -92,7 +92,10 @@ impl Map {
     ///
     /// Where a number is out of range, or there is no memory.
     pub fn new(pages: u32, handles: usize) -> Result<Map, OpenError> {
-        Map::of(handles, false, |seats, count| unsafe { blink_open(pages, seats, count) })
+        Map::of(handles, false, |seats, count| match pages {
+            0 => BLINK_BAD_PAGES,
+            _ => unsafe { blink_open(pages, seats, count) },
+        })
     }
 
     /// A map that begins with the rows and the pages of an image, as [`Map::close_image`] and `blink dump` make it, and grows.
