@@ -19,4 +19,4 @@ returns-clause-told c =
     let listed = subst (λ (z : Option ℕ). HasListed c.args.direction c.args.keys.0 z _ _ _ _ c.deref_mut.result.now e.new.self) c.end_toward.ensures e.ensures.listed in
     let rows = subst (λ (z : List (ℕ × ℕ)). AreFirstOf z c.args.rows.now c.copied.new.rows) c.as_slice.ensures.value c.copied.ensures in
     called c.args.seat.now c.put_back.new.place _ _ c.deref_mut.result.now e.new.self was c.put_back.ensures e.ensures.same
-    (e.ensures.keeps, (e.result.0.items, _, e.result.1, listed, rows, c.told.ensures.count ∙ c.len.ensures, told_kept _ _ _ c.told.ensures.told))
+    (e.ensures.keeps, (e.result.0.items, _, e.result.1, listed, rows, c.told.ensures.count ∙ (c.len.ensures ∙ e.result.0.ok.0), told_kept _ _ _ c.told.ensures.told))
