@@ -27,7 +27,7 @@ same_code : (code n : ℤ) → code ≡ n → to_z w32 (of_z w32 n) ≡ n → to
 same_code code n is fits = ap (λ (z : ℤ). to_z w32 (of_z w32 z)) is ∙ fits
 
 pub told_kept : (result : Result (Option ℕ) ScanFault) (part : Part) (code : ℤ) → IsTold result part code → IsTold result part (to_z w32 (of_z w32 code))
-told_kept (Ok (Some next)) part code (is, goes) = (same_code code (pos 0) is refl, goes)
+told_kept (Ok (Some next)) part code (is, more, at) = (same_code code (pos 0) is refl, more, at)
 told_kept (Ok None) part code (is, ends) = (same_code code (pos 0) is refl, ends)
-told_kept (Err (OutOfTurns from)) part code (is, goes) = (same_code code (pos 4) is refl, goes)
-told_kept (Err (Memory from)) part code (is, goes) = (same_code code (pos 7) is refl, goes)
+told_kept (Err (OutOfTurns from)) part code (is, more, at) = (same_code code (pos 4) is refl, more, at)
+told_kept (Err (Memory from)) part code (is, more, at) = (same_code code (pos 7) is refl, more, at)

@@ -29,6 +29,24 @@ returns-then-needed-bytes c =
     ))
 
 -- the image is no longer than there is room for
+pub slice_bounds-spell-end : goal.slice_bounds-spell-end
+slice_bounds-spell-end c =
+    let boxes = c.args.boxes.items in let box = c.in-Some.first.now in
+    let first : Some box ≡ slice_get boxes 0 = c.in-Some.ensures.value ∙ ap (λ (z : List Boxed). slice_get z 0) c.deref.ensures.value in
+    let long : c.image_length-needed.result ≡ 32 + 256 * pages_of (arc_value box.value.index) = c.image_length-needed.ensures ∙ (ap (λ n. 32 + 256 * n) (c.pages.ensures ∙ ap (λ (z : Seat). pages_of (arc_value z.index)) c.deref-2.ensures)) in
+    let many = pages_closed boxes box c.in-Ok.quiet.image.pages.items first c.in-Ok.ensures.ok in
+    let same = ap (λ (z : Image). length z.pages.items) c.image-image.ensures.same in
+    omega (arith, c.size-size.ensures.most, same, many, long, c.if-needed-bytes.false)
+
+pub slice_bounds-spell-end-in-Ok : goal.slice_bounds-spell-end-in-Ok
+slice_bounds-spell-end-in-Ok c =
+    let boxes = c.args.boxes.items in let box = c.in-Some.first.now in
+    let first : Some box ≡ slice_get boxes 0 = c.in-Some.ensures.value ∙ ap (λ (z : List Boxed). slice_get z 0) c.deref.ensures.value in
+    let long : c.image_length-needed.result ≡ 32 + 256 * pages_of (arc_value box.value.index) = c.image_length-needed.ensures ∙ (ap (λ n. 32 + 256 * n) (c.pages.ensures ∙ ap (λ (z : Seat). pages_of (arc_value z.index)) c.deref-2.ensures)) in
+    let many = pages_closed boxes box c.in-Ok.quiet.image.pages.items first c.in-Ok.ensures.ok in
+    let same = ap (λ (z : Image). length z.pages.items) c.image-image.ensures.same in
+    sym (length-take-le c.size-size.result c.args.bytes.now (omega (arith, c.size-size.ensures.most, same, many, long, c.if-needed-bytes.false)))
+
 pub spell-requires : goal.spell-requires
 spell-requires c =
     let boxes = c.args.boxes.items in let box = c.in-Some.first.now in
