@@ -1,4 +1,5 @@
-use Rattle.std.proofs.Common.{ℕ, ◌≤◌, Option, Some, List, length, sym, ap, ◌∙◌, subst}
+use Rattle.std.proofs.Common.{ℕ, ◌≤◌, ◌-◌, Option, Some, List, length, vec_len, sym, ap, ◌∙◌, subst}
+use Rattle.std.specs.Vec.{vec_capacity}
 use Rattle.bl_ffi_seats.specs.declared.seat.Seat.{Seat}
 use Rattle.bl_ffi_seats.specs.Seats.{HasListed}
 use Rattle.bl_ffi.specs.Ranged.{AreFirstOf}
@@ -16,7 +17,8 @@ pub returns-clause-told : goal.returns-clause-told
 returns-clause-told c =
     let was = c.in-Some.ensures.held ∙ ap (λ (z : Seat). Some z) (sym c.deref_mut.ensures.value) in
     let e = c.scan-pairs in
-    let listed = subst (λ (z : Option ℕ). HasListed c.args.direction c.args.keys.0 z _ _ _ _ c.deref_mut.result.now e.new.self) c.end_toward.ensures e.ensures.listed in
+    let room : ℕ = vec_capacity e.result.0 - vec_len e.result.0 in
+    let listed = subst (λ (z : Option ℕ). HasListed c.args.direction c.args.keys.0 z (length c.args.rows.now) room e.result.1 e.result.0.items c.deref_mut.result.now e.new.self) c.end_toward.ensures e.ensures.listed in
     let rows = subst (λ (z : List (ℕ × ℕ)). AreFirstOf z c.args.rows.now c.copied.new.rows) c.as_slice.ensures.value c.copied.ensures in
     called c.args.seat.now c.put_back.new.place _ _ c.deref_mut.result.now e.new.self was c.put_back.ensures e.ensures.same
-    (e.ensures.keeps, (e.result.0.items, _, e.result.1, listed, rows, c.told.ensures.count ∙ (c.len.ensures ∙ e.result.0.ok.0), told_kept _ _ _ c.told.ensures.told))
+    (e.ensures.keeps, (e.result.0.items, room, e.result.1, listed, rows, c.told.ensures.count ∙ (c.len.ensures ∙ e.result.0.ok.0), told_kept e.result.1 c.told.new.part c.told.result c.told.ensures.told))
