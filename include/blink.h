@@ -29,7 +29,7 @@
  *      function is called from a signal handler, nor in the child of a fork of a program
  *      with threads, but for those that look keys and rows up, by a seat that was in no
  *      call, where no other thread was in a call that writes: they allocate nothing, but
- *      for blink_range (tested).
+ *      for blink_range and scans (tested).
  *      Else: the heap's own faults.
  *   6. All seats of one call are of one map: those of blink_try_meet and of
  *      blink_try_close_image. (blink_meet and blink_close_image look first, and answer
@@ -194,7 +194,8 @@ int32_t blink_open_larger(const uint8_t *bytes, size_t length, uint32_t pages,
  *   BLINK_CLOSED      it was closed already */
 BLINK_INLINE int32_t blink_close(blink_seat *seat);
 
-/* How many bytes the image of a map of so many pages has: 32 + 256 * pages. */
+/* How many bytes the image of a map of so many pages has at most: 32 + 256 * pages. Up to
+ * 65,536 pages it has so many; of more those behind the last one in use are left out. */
 uint64_t blink_image_length(uint32_t pages);
 
 /* Closes a map by all its seats, and writes its image, as `blink` and blink_open_image
@@ -206,7 +207,7 @@ uint64_t blink_image_length(uint32_t pages);
  *   BLINK_SEATS_OPEN  a seat of the map is not among these: so a map of which blink_close
  *                     has closed a seat has no image any more; or somebody else has a
  *                     share, which no proof excludes
- *   BLINK_FEW_BYTES   `room` is too small: `*length` says how many bytes are needed
+ *   BLINK_FEW_BYTES   `room` is too small: `*length` says how many bytes suffice
  *   BLINK_NO_MEMORY   malloc refused
  *   BLINK_SEATS_LOST  all seats are closed, and there is no image: cannot happen as long
  *                     as only seats own the map, which is so today but not proved */
@@ -266,7 +267,7 @@ BLINK_INLINE int32_t blink_is_sparse(blink_seat *seat, bool *is_sparse);
  *   BLINK_BAD_ROWS    the keys do not rise
  *   BLINK_BAD_FILL    `fill` is not 1 to 14, or too little for so many rows
  *   BLINK_NO_ROOM     the rows need more pages
- *   BLINK_FEW_BYTES   `room` is too small: `*length` says how many bytes are needed
+ *   BLINK_FEW_BYTES   `room` is too small: `*length` says how many bytes suffice
  *   BLINK_NO_MEMORY   malloc refused */
 int32_t blink_image_of(const blink_row *rows, size_t count, uint32_t pages, uint32_t fill,
                        uint8_t *bytes, size_t room, uint64_t *length);
@@ -278,7 +279,7 @@ int32_t blink_image_of(const blink_row *rows, size_t count, uint32_t pages, uint
  *   BLINK_FEW_ROWS    the map has more rows than `most`
  *   BLINK_BAD_FILL    as above, and so the following three
  *   BLINK_NO_ROOM, BLINK_FEW_BYTES, BLINK_NO_MEMORY
- *                     no byte of the image is written, and `rows` has the rows
+ *                     no byte of the image is written
  *   BLINK_CLOSED      the seat is closed */
 BLINK_INLINE int32_t blink_save(blink_seat *seat, uint32_t fill, blink_row *rows,
                                 size_t most, uint8_t *bytes, size_t room,
@@ -368,6 +369,7 @@ BLINK_INLINE int32_t blink_add(blink_seat *seat, uint64_t key, uint64_t delta,
  * no snapshot. Look at the answer before `*more`, which stays true with BLINK_CLOSED.
  *   BLINK_OK          the rows are written
  *   BLINK_FEW_ROWS    `room` is 0
+ *   BLINK_NO_MEMORY   malloc refused; these are the rows so far, and `*more` is true
  *   BLINK_CLOSED      the seat is closed */
 BLINK_INLINE int32_t blink_scan(blink_seat *seat, uint64_t from, blink_row *rows,
                                 size_t room, size_t *count, uint64_t *next, bool *more);
@@ -376,6 +378,7 @@ BLINK_INLINE int32_t blink_scan(blink_seat *seat, uint64_t from, blink_row *rows
  * array is not kept.
  *   BLINK_OK          the rows are written
  *   BLINK_FEW_ROWS    `room` is 0
+ *   BLINK_NO_MEMORY   malloc refused; these are the rows so far, and `*more` is true
  *   BLINK_CLOSED      the seat is closed */
 BLINK_INLINE int32_t blink_scan_to(blink_seat *seat, uint64_t from, uint64_t last,
                                    blink_row *rows, size_t room, size_t *count,
@@ -385,6 +388,7 @@ BLINK_INLINE int32_t blink_scan_to(blink_seat *seat, uint64_t from, uint64_t las
  * less.
  *   BLINK_OK          the rows are written
  *   BLINK_FEW_ROWS    `room` is 0
+ *   BLINK_NO_MEMORY   malloc refused; these are the rows so far, and `*more` is true
  *   BLINK_CLOSED      the seat is closed */
 BLINK_INLINE int32_t blink_scan_down(blink_seat *seat, uint64_t from, blink_row *rows,
                                      size_t room, size_t *count, uint64_t *next,
@@ -393,6 +397,7 @@ BLINK_INLINE int32_t blink_scan_down(blink_seat *seat, uint64_t from, blink_row 
 /* The same down to the key `last`, itself included.
  *   BLINK_OK          the rows are written
  *   BLINK_FEW_ROWS    `room` is 0
+ *   BLINK_NO_MEMORY   malloc refused; these are the rows so far, and `*more` is true
  *   BLINK_CLOSED      the seat is closed */
 BLINK_INLINE int32_t blink_scan_down_to(blink_seat *seat, uint64_t from, uint64_t last,
                                         blink_row *rows, size_t room, size_t *count,
@@ -513,9 +518,9 @@ const char *blink_version(void);
 /* ---- Calls that come back at once. ---- */
 
 /* What the functions above call. None of these waits, and no guard looks at their rules.
- * Told BLINK_AGAIN, a call has not been done, and nothing of it is left: a page is
- * latched by another thread, others hold back what was replaced, or put pages while a
- * search reads. Let another thread run and make it again, or give it up. */
+ * Told BLINK_AGAIN, a call has not been done, and nothing of it is left, but for a scan's
+ * rows: a page is latched by another thread, others hold back what was replaced, or put
+ * pages while a search reads. Let another thread run and make it again, or give it up. */
 
 /* Closes a seat, as blink_close.
  *   BLINK_OK, BLINK_CLOSED  as there */
@@ -558,6 +563,20 @@ int32_t blink_try_rows(blink_seat *seat, uint64_t from, blink_row *rows, size_t 
  *   BLINK_AGAIN       not done: nothing is written */
 int32_t blink_try_rows_down(blink_seat *seat, uint64_t from, blink_row *rows, size_t room,
                             blink_part *part);
+
+/* Rows from a key on up to the key `last`, itself included, as many as fit: what a scan
+ * is made of. `*part` says how many are written, and how the scan goes on.
+ *   BLINK_OK          where it goes on, `room` rows are written
+ *   BLINK_AGAIN       so far, and it goes on: let another thread run before
+ *   BLINK_NO_MEMORY   malloc refused; so far, and it goes on
+ *   BLINK_CLOSED      the seat is closed; nothing is written */
+int32_t blink_try_scan(blink_seat *seat, uint64_t from, uint64_t last, blink_row *rows,
+                       size_t room, blink_part *part);
+
+/* The same down to the key `last`, by falling keys.
+ *   BLINK_OK, BLINK_AGAIN, BLINK_NO_MEMORY, BLINK_CLOSED  as there */
+int32_t blink_try_scan_down(blink_seat *seat, uint64_t from, uint64_t last,
+                            blink_row *rows, size_t room, blink_part *part);
 
 /* The rows of one moment, as blink_range.
  *   BLINK_OK, BLINK_FEW_ROWS, BLINK_UNSTEADY, BLINK_NO_MEMORY, BLINK_CLOSED  as there
@@ -744,15 +763,12 @@ BLINK_INLINE int32_t blink_range(blink_seat *seat, uint64_t from, uint64_t last,
     BLINK_RETURN_CALL_(seat, blink_try_range, from, last, rounds, rows, room, count)
 }
 
-/* Whether a key lies behind the last one that is asked for. */
-static inline bool blink_is_behind_(bool down, uint64_t key, uint64_t last) {
-    return down ? key < last : key > last;
-}
-
 /* A scan, upwards or downwards, up to the key `last`. */
 static inline int32_t blink_list_(blink_seat *seat, bool down, uint64_t from,
                                   uint64_t last, blink_row *rows, size_t room,
                                   size_t *count, uint64_t *next, bool *more) {
+    /* The library lists them in memory of its own first. */
+    const size_t at_once = 256;
     blink_part part = { 0, 0, true, 0 };
     *count = 0;
     *next = from;
@@ -760,13 +776,20 @@ static inline int32_t blink_list_(blink_seat *seat, bool down, uint64_t from,
     if (room == 0) return BLINK_FEW_ROWS;
     while (*more && *count < room) {
         blink_row *rest = rows + *count;
-        int32_t answer = down ? blink_rows_down(seat, *next, rest, room - *count, &part)
-                              : blink_rows(seat, *next, rest, room - *count, &part);
-        if (answer != BLINK_OK) return answer;
+        const size_t left = room - *count;
+        const size_t some = left < at_once ? left : at_once;
+        int32_t answer;
+        if (down)
+            BLINK_CALL_(seat, blink_try_scan_down, answer, *next, last, rest, some,
+                        &part);
+        else
+            BLINK_CALL_(seat, blink_try_scan, answer, *next, last, rest, some, &part);
+        if (answer == BLINK_CLOSED) return answer;
         *count += (size_t)part.count;
-        *next = part.next;
-        *more = part.more && !blink_is_behind_(down, part.next, last);
-        while (*count > 0 && blink_is_behind_(down, rows[*count - 1].key, last)) --*count;
+        *more = part.more;
+        if (part.more) *next = part.next;
+        if (answer == BLINK_NO_MEMORY) return answer;
+        if (answer == BLINK_AGAIN) BLINK_YIELD();
     }
     return BLINK_OK;
 }
@@ -798,13 +821,14 @@ BLINK_INLINE int32_t blink_scan_down_to(blink_seat *seat, uint64_t from, uint64_
 static inline int32_t blink_nearest_(blink_seat *seat, bool down, bool any, uint64_t from,
                                      blink_row *row) {
     blink_row found = { 0, 0 };
-    size_t count = 0;
-    uint64_t next = 0;
-    bool more = false;
-    int32_t answer = blink_list_(seat, down, from, down ? 0 : UINT64_MAX, &found, 1,
-                                 &count, &next, &more);
-    if (answer != BLINK_OK) return answer;
-    if (count == 0 || !any) return BLINK_ABSENT;
+    blink_part part = { 0, 0, true, 0 };
+    part.next = from;
+    while (part.more && part.count == 0) {
+        int32_t answer = down ? blink_rows_down(seat, part.next, &found, 1, &part)
+                              : blink_rows(seat, part.next, &found, 1, &part);
+        if (answer != BLINK_OK) return answer;
+    }
+    if (part.count == 0 || !any) return BLINK_ABSENT;
     *row = found;
     return BLINK_OK;
 }

@@ -24,7 +24,7 @@ typedef struct { uint32_t pages, count, most; ...; } shim_map;
 int32_t shim_open(uint32_t pages, uint32_t most, uint32_t count, const uint8_t *image, size_t length, shim_map **made);
 void shim_close(shim_map *map);
 void shim_free(shim_map *map);
-int32_t shim_image(shim_map *map, uint8_t *bytes, size_t room, bool *goes_on);
+int32_t shim_image(shim_map *map, uint8_t *bytes, size_t *size, bool *goes_on);
 int32_t shim_reopen(shim_map *map, const uint8_t *bytes, size_t length);
 uint64_t shim_find(shim_map *map, uint64_t key);
 int32_t shim_find_surely(shim_map *map, uint64_t key, uint64_t *value);

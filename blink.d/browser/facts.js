@@ -11,7 +11,7 @@ function some(pages) {
 
 function putFacts({ rows, leaves, inners, levels, thin, unposted }, used) {
   const { image } = seen, facts = [
-    ["pages", `${grouped(image.count)}, ${grouped(used)} in use`], ["rows", grouped(rows)], ["leaves", grouped(leaves)], ["inner pages", grouped(inners)],
+    ["pages", `${grouped(image.all)}, ${grouped(used)} in use`], ["rows", grouped(rows)], ["leaves", grouped(leaves)], ["inner pages", grouped(inners)],
     ["levels", levels], ["thin", grouped(thin)], ["unposted", grouped(unposted)], ["rows a leaf", leaves ? (rows / leaves).toFixed(2) : 0],
   ];
   for (const [name, pages] of [["on no chain", image.loose], ["dead", image.dead], ["not readable", image.unread]]) {

@@ -71,11 +71,18 @@ function mark(image) {
   }
 }
 
+// How many pages there are: of a large image those behind the last one in use are not stored.
+function pagesTold(bytes, stored) {
+  if (bytes.length < HEAD) return stored;
+  const head = new DataView(bytes.buffer, bytes.byteOffset, HEAD);
+  return head.getUint32(8, true) === 2 ? Math.max(stored, head.getUint32(12, true)) : stored;
+}
+
 export function readImage(bytes) {
   const count = Math.max(0, Math.floor((bytes.length - HEAD) / PAGE)), flags = () => new Uint8Array(count);
   const words = new BigUint64Array(bytes.buffer, bytes.byteOffset + HEAD, count * WORDS);
   const image = {
-    count, words, kind: flags(), level: flags(), size: flags(), right: new Uint32Array(count), used: flags(), thin: flags(), unposted: flags(), chained: flags(),
+    count, all: pagesTold(bytes, count), words, kind: flags(), level: flags(), size: flags(), right: new Uint32Array(count), used: flags(), thin: flags(), unposted: flags(), chained: flags(),
     parent: new Int32Array(count).fill(-1), place: new Int32Array(count).fill(-1), firsts: [], unread: [], loose: [], dead: [],
   };
   for (let x = 0; x < count; x++) {

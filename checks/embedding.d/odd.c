@@ -104,6 +104,8 @@ static void closed(void) {
     WANT(blink_try_put(&seats[0], 1, 1, &value), BLINK_CLOSED);
     WANT(blink_try_rows(&seats[0], 0, rows, 64, &part), BLINK_CLOSED);
     WANT(blink_try_rows_down(&seats[0], 9, rows, 64, &part), BLINK_CLOSED);
+    WANT(blink_try_scan(&seats[0], 0, 9, rows, 64, &part), BLINK_CLOSED);
+    WANT(blink_try_scan_down(&seats[0], 9, 0, rows, 64, &part), BLINK_CLOSED);
     WANT(blink_try_range(&seats[0], 0, 9, 1, rows, 64, &next), BLINK_CLOSED);
     WANT(blink_try_range(&seats[0], 9, 0, 1, rows, 64, &next), BLINK_CLOSED);
     HOLDS(next == 9);
@@ -201,6 +203,26 @@ static void parted(bool down, uint64_t count, size_t room) {
     HOLDS(key == (down ? 0 : count));
 }
 
+/* Scans of nothing, of less than there is, and up to the ends of the map. */
+static void scanned_at_once(uint64_t count) {
+    blink_part part = {77, 77, false, 0};
+    rows[0].key = 77;
+    WANT(blink_try_scan(&seats[0], 6, 5, rows, 64, &part), BLINK_OK);
+    HOLDS(part.count == 0 && !part.more);
+    WANT(blink_try_scan_down(&seats[0], 5, 6, rows, 64, &part), BLINK_OK);
+    HOLDS(part.count == 0 && !part.more);
+    WANT(blink_try_scan(&seats[0], 3, 17, rows, 0, &part), BLINK_OK);
+    HOLDS(part.count == 0 && part.more && part.next == 3 && rows[0].key == 77);
+    WANT(blink_try_scan(&seats[0], 3, 17, rows, 10, &part), BLINK_OK);
+    HOLDS(part.count == 10 && part.more && part.next == 13 && rows[0].key == 3 && rows[9].key == 12);
+    WANT(blink_try_scan_down(&seats[0], 17, 3, rows, 10, &part), BLINK_OK);
+    HOLDS(part.count == 10 && part.more && part.next == 7 && rows[0].key == 17 && rows[9].value == 8);
+    WANT(blink_try_scan(&seats[0], 3, UINT64_MAX, rows, 64, &part), BLINK_OK);
+    HOLDS(part.count == count - 3 && !part.more);
+    WANT(blink_try_scan_down(&seats[0], 17, 0, rows, 64, &part), BLINK_OK);
+    HOLDS(part.count == 17 && !part.more && rows[16].key == 1);
+}
+
 /* The rows of one moment, which are those of the keys 1 to count - 1. */
 static void at_one_moment(uint64_t count) {
     uint64_t found = 77, at;
@@ -227,6 +249,7 @@ static void listed(uint64_t count) {
     uint64_t next = 0;
     bool more = true;
     at_one_moment(count);
+    scanned_at_once(count);
     WANT(blink_rows(&seats[0], 0, rows, 0, &part), BLINK_FEW_ROWS);
     WANT(blink_rows_down(&seats[0], 0, rows, 0, &part), BLINK_FEW_ROWS);
     WANT(blink_scan(&seats[0], 0, rows, 0, &found, &next, &more), BLINK_FEW_ROWS);

@@ -474,13 +474,20 @@ static int32_t image_with_pages(blink_seat *seat, uint32_t pages, uint8_t **made
     return BLINK_OK;
 }
 
+/* How many pages the head of an image tells. */
+static uint32_t pages_of_image(const uint8_t *bytes, size_t length) {
+    uint32_t pages = 0;
+    for (size_t i = 0; i < 4 && length >= 16; i++) pages |= (uint32_t)bytes[12 + i] << 8 * i;
+    return pages;
+}
+
 /* Takes the rows of an image in place of the map's, with so many pages where that is not 0, and else with as many as the image. */
 static int32_t take_image_as(Map *map, const uint8_t *bytes, size_t length, uint32_t pages) {
     blink_seat seat = BLINK_SEAT_INIT;
     uint8_t *sized = NULL;
     size_t sized_length = 0;
     int32_t answer;
-    if (pages == 0 || blink_image_length(pages) == length) return take_image(map, bytes, length);
+    if (pages == 0 || pages_of_image(bytes, length) == pages) return take_image(map, bytes, length);
     answer = blink_open_image(bytes, length, &seat, 1);
     if (answer != BLINK_OK) return answer;
     answer = image_with_pages(&seat, pages, &sized, &sized_length);

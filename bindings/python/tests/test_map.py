@@ -234,6 +234,17 @@ class Images(unittest.TestCase):
         self.assertEqual((list(again.items()), len(again), again.pages), (list(m.items()), 1000, 512))
         self.assertEqual(m[999 * 999], 999)
 
+    def test_image_of_a_large_map(self):
+        m = Map({5: 50, 6: 60}, pages=65_537)
+        # The anchor and a leaf are in use, and four pages are stored.
+        image = m.image()
+        self.assertEqual(len(image), 32 + 256 * 4)
+        again = Map.from_image(image)
+        self.assertEqual((list(again.items()), again.pages), ([(5, 50), (6, 60)], 65_537))
+        self.path.write_bytes(image)
+        with Map(pages=65_537, path=self.path) as m:
+            self.assertEqual((len(m), m.pages), (2, 65_537))
+
     def test_pickle(self):
         m = Map({1: 10, TOP: 20}, pages=32, seats=3)
         for again in (pickle.loads(pickle.dumps(m)), copy.deepcopy(m), copy.copy(m)):

@@ -4,7 +4,7 @@ use Rattle.std.specs.Prelude.{IfErr, MatchResult}
 use Rattle.bl_page.specs.declared.page.Page.{Page}
 use Rattle.bl_image.specs.Images.{IsImage, AreWithin}
 use Rattle.bl_image.specs.declared.fault.ImageFault.TheVariants as image
-use Rattle.bl_image.proofs.Chunks.{image_same, read_fault}
+use Rattle.bl_image.proofs.Wholes.{image_same, read_fault}
 use Rattle.bl_check.specs.declared.fault.Fault.{Fault}
 use Rattle.bl_check.specs.declared.fault.Fault.TheVariants as fault
 use Rattle.bl_check.specs.Rules.{Rule, rule_number, KeepsRule, AllKeep, IsFirst}

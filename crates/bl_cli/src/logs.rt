@@ -4,11 +4,12 @@ ghost use Rattle.std.specs.Prelude.{IfOk};
 ghost use Rattle.bl_serve_lines.specs.Options.{AreWithin};
 ghost use Rattle.bl_serve_ground.specs.Origins.{HasPages};
 
+use crate::saving::image_within;
 use crate::{Counts, Output, end_serving, origin_of, output, say_counts, serve_from};
 use bl_check::Quiet;
 use bl_cli_options::{LogAction, Server};
 use bl_cli_streams::{Piped, ScriptFile};
-use bl_load::{LoadFault, image_of, rows_of};
+use bl_load::{LoadFault, rows_of};
 use bl_log_files::{
     LogError, LoggedOutput, OpenLog, check_log, claim, load_log, open_log, print_log,
 };
@@ -20,9 +21,6 @@ use std::io::Printer;
 use std::process::ExitCode;
 use std::sync::Wait;
 use std::thread::Threads;
-
-/// Each leaf of an index over the rows of a log has so many of them at first.
-const FILL: u32 = 14;
 
 /// What is outside of a server that keeps a log.
 type Logged<'a> = LoggedOutput<'a, HostRuntime, Piped<Printer<'a, HostRuntime>>>;
@@ -75,26 +73,6 @@ pub(crate) fn run(rt: &HostRuntime, action: LogAction, folder: &str) -> ExitCode
 /// Ends with a fault of the log of a server.
 fn fail(rt: &HostRuntime, fault: LogError) -> ExitCode {
     end(rt, Err(fault), output(rt))
-}
-
-/// An image of rows with so many pages, doubled up to the most until the rows have room.
-fn image_within(
-    alloc: Global,
-    rows: &[(u64, u64)],
-    pages: u32,
-    most: u32,
-) -> Result<Quiet, LoadFault> {
-    let mut pages = pages;
-    for _ in 0..32 {
-        if pages >= most {
-            break;
-        }
-        match image_of(alloc, rows, pages, FILL) {
-            Err(LoadFault::Room) => pages = pages.saturating_mul(2).min(most),
-            other => return other,
-        }
-    }
-    image_of(alloc, rows, pages, FILL)
 }
 
 /// What the rows of a log begin an index with, of as many pages as are asked for, or as the rows need where it may grow.

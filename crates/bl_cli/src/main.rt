@@ -6,6 +6,7 @@
 #![tactic(auto)]
 
 mod logs;
+mod saving;
 
 ghost use Rattle.std.specs.Prelude.{◌≤◌, ◌^◌, ℕ, List, IfOk};
 ghost use Rattle.bl_model.specs.Rows.{map_of};
@@ -13,6 +14,7 @@ ghost use Rattle.bl_serve_lines.specs.Options.{AreWithin};
 ghost use Rattle.bl_serve_ground.specs.Origins.{HasPages, HasRows};
 ghost use Rattle.bl_serve.specs.Origins.{MayServe};
 
+use crate::saving::Saver;
 use bl_check::Quiet;
 use bl_cli_commands::{
     CommandFault, Form, MakeFault, argument_line, check_file, draw_file, load_file, make_image,
@@ -240,8 +242,8 @@ pub(crate) fn say_counts(rt: &HostRuntime, server: &Server, counts: &Counts) {
     } else {
         server.options.pages
     };
-    if let Some(first) = remarks.first_malformed {
-        let line = malformed_line(alloc, totals.malformed, first);
+    if let Some((first, wrong)) = remarks.first_malformed {
+        let line = malformed_line(alloc, totals.malformed, first, wrong);
         say(rt, line.map(Some));
     }
     if server.sections == Sectioning::BySync {
@@ -274,15 +276,24 @@ fn serve_and_close<T: Threads + Wait + Sync, O: Outside>(
     rt: &HostRuntime,
     threads: &T,
     origin: Origin,
-    plan: ServePlan,
+    server: &Server,
     outside: &mut O,
 ) -> Result<(Summary, Result<Quiet, AllocError>), ServeFault>
     requires pages { HasPages origin }
-    requires passes { MayServe plan }
+    requires within { AreWithin server.now.options }
     requires log { O.is_modelled outside.old → (rows : List (ℕ × ℕ)) × HasRows origin rows × O.holds outside.old (map_of rows) }
 {
     let mut reader = Watched::new(rt.stdin());
-    dump_by_plan(threads, rt.alloc(), origin, plan, &mut reader, outside)
+    let (plan, files) = (plan_of(server), Saver::new(rt, server.options.pages));
+    dump_by_plan(
+        threads,
+        rt.alloc(),
+        origin,
+        plan,
+        &mut reader,
+        outside,
+        &files,
+    )
 }
 
 /// The same, and leaves the index open.
@@ -290,15 +301,24 @@ fn serve_alone<T: Threads + Wait + Sync, O: Outside>(
     rt: &HostRuntime,
     threads: &T,
     origin: Origin,
-    plan: ServePlan,
+    server: &Server,
     outside: &mut O,
 ) -> Result<Summary, ServeFault>
     requires pages { HasPages origin }
-    requires passes { MayServe plan }
+    requires within { AreWithin server.now.options }
     requires log { O.is_modelled outside.old → (rows : List (ℕ × ℕ)) × HasRows origin rows × O.holds outside.old (map_of rows) }
 {
     let mut reader = Watched::new(rt.stdin());
-    serve_by_plan(threads, rt.alloc(), origin, plan, &mut reader, outside)
+    let (plan, files) = (plan_of(server), Saver::new(rt, server.options.pages));
+    serve_by_plan(
+        threads,
+        rt.alloc(),
+        origin,
+        plan,
+        &mut reader,
+        outside,
+        &files,
+    )
 }
 
 /// Serves standard input over an index that begins so. With `--stats` the index is closed at the end, so that its pages can be
@@ -314,15 +334,14 @@ pub(crate) fn serve_from<T: Threads + Wait + Sync, O: Outside>(
     requires within { AreWithin server.now.options }
     requires log { O.is_modelled outside.old → (rows : List (ℕ × ℕ)) × HasRows origin rows × O.holds outside.old (map_of rows) }
 {
-    let plan = plan_of(server);
     if !server.stats {
-        let summary = serve_alone(rt, threads, origin, plan, outside)?;
+        let summary = serve_alone(rt, threads, origin, server, outside)?;
         return Ok(Counts {
             summary,
             usage: None,
         });
     }
-    let (summary, closed) = serve_and_close(rt, threads, origin, plan, outside)?;
+    let (summary, closed) = serve_and_close(rt, threads, origin, server, outside)?;
     let usage = closed.ok().map(|quiet| used_pages(quiet.image()));
     Ok(Counts { summary, usage })
 }
@@ -396,8 +415,7 @@ fn dump<T: Threads + Wait + Sync>(
         Err(code) => return Ok(code),
     };
     let mut writer = output(rt);
-    let plan = plan_of(&server);
-    let (summary, closed) = match serve_and_close(rt, threads, origin, plan, &mut writer) {
+    let (summary, closed) = match serve_and_close(rt, threads, origin, &server, &mut writer) {
         Ok(served) => served,
         Err(fault) => return Ok(end_serving(rt, &server, fault, writer)),
     };

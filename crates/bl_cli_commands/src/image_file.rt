@@ -11,8 +11,8 @@ use std::io::{Chain, Cursor, ErrorKind, Read, Take};
 /// The first bytes of each image.
 const MAGIC: &[u8] = b"BLNKIDX1";
 
-/// So many bytes tell how many pages an image has.
-const HEAD: usize = 16;
+/// So many bytes tell how many pages an image has, and how many of them are stored.
+const HEAD: usize = 20;
 
 /// The bytes of such a file: those that were read to know how many there may be, and then the others.
 pub(crate) type ImageBytes<F> = Watched<Chain<Cursor<Vec<u8>>, Take<F>>>;
@@ -41,7 +41,7 @@ fn length_of<F: OpenFile>(file: &F) -> Result<Option<u64>, CommandFault> {
     }
 }
 
-/// The first bytes of a file, as many as tell how many pages an image has, or all where there are fewer.
+/// The first bytes of a file, as many as tell how many pages an image stores, or all where there are fewer.
 fn head_of<F: Read>(alloc: Global, file: &mut F) -> Result<Vec<u8>, CommandFault> {
     let mut head = Vec::new(alloc);
     let mut piece = [0u8; HEAD];
@@ -59,11 +59,12 @@ fn head_of<F: Read>(alloc: Global, file: &mut F) -> Result<Vec<u8>, CommandFault
 
 /// How many bytes an image may have that begins so: as many as its head tells, or those of the longest one that is not large.
 fn length_told(head: &[u8]) -> u64 {
-    let pages = match head {
-        [magic @ .., _, _, _, _, a, b, c, d] if magic == MAGIC => {
+    let stored = match head {
+        // Only of a large image is the last number not 0.
+        [magic @ .., _, _, _, _, _, _, _, _, a, b, c, d] if magic == MAGIC => {
             u32::from_le_bytes([*a, *b, *c, *d]).clamp(MOST_PAGES, MOST_LARGE_PAGES)
         }
         _ => MOST_PAGES,
     };
-    32 + 256 * u64::from(pages)
+    32 + 256 * u64::from(stored)
 }

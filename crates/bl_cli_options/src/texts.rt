@@ -38,9 +38,10 @@ to 18446744073709551615:
                     noroom
   stat              pages A used U free F: all pages of the index, those in use,
                     and those that may be taken
+  save FILE         saved N: an image of all N rows is in this file; or unsaved
   sync              synced: the end of a section
 Any other line is malformed; standard error says at the end how many were, and
-which was the first. Each reply begins with the number of its line.
+at which word the first one. Each reply begins with the number of its line.
 Replies are written at each sync and at the end of the input. All requests
 before a sync are carried out before those after it; those between two syncs in
 any order, but those of one key in the order of their lines. With --section N

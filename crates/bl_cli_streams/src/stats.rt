@@ -1,11 +1,11 @@
 //! What a server says at its end. But for the line on malformed requests, these are tested.
 
 ghost use Rattle.std.specs.Prelude.{◌≡◌, ◌≢◌, IfOk, string_bytes};
-ghost use Rattle.bl_cli_streams.specs.Counted.{malformed_text, one_malformed_text};
+ghost use Rattle.bl_cli_streams.specs.Counted.{malformed_text, one_malformed_text, wrong_text};
 
 use bl_image::Image;
 use bl_model::limits::{MOST_LARGE_PAGES, MOST_PAGES};
-use bl_serve_lines::Totals;
+use bl_serve_lines::{Totals, Wrong};
 use std::alloc::{AllocError, Global};
 
 /// The pages of an index that has been closed.
@@ -73,14 +73,33 @@ pub fn noroom_line(
     )
 }
 
-/// The line for so many malformed requests, of which the first is the one of that line.
-pub fn malformed_line(alloc: Global, malformed: u64, first: u64) -> Result<String, AllocError>
-    ensures one { malformed ≡ 1 → IfOk result (λ line. string_bytes line ≡ one_malformed_text first) }
-    ensures more { malformed ≢ 1 → IfOk result (λ line. string_bytes line ≡ malformed_text malformed first) }
+/// What is said of what is wrong with a line, behind its number.
+fn wrong_words(alloc: Global, wrong: Wrong) -> Result<String, AllocError>
+    ensures { IfOk result (λ words. string_bytes words ≡ wrong_text wrong) }
 {
-    if malformed == 1 {
-        format!(in alloc; "blink: 1 request was malformed: line {first}")
-    } else {
-        format!(in alloc; "blink: {malformed} requests were malformed; the first is line {first}")
+    match wrong {
+        Wrong::Word(place) => format!(in alloc; ", at word {place}"),
+        Wrong::Long => format!(in alloc; ", which has more than 69 bytes"),
+        Wrong::Open => format!(in alloc; ", which ends without a line feed"),
     }
+}
+
+/// The line for so many malformed requests, of which the first is the one of that line, with what is wrong with it.
+pub fn malformed_line(
+    alloc: Global,
+    malformed: u64,
+    first: u64,
+    wrong: Wrong,
+) -> Result<String, AllocError>
+    ensures one { malformed ≡ 1 → IfOk result (λ line. string_bytes line ≡ one_malformed_text first ++ wrong_text wrong) }
+    ensures more { malformed ≢ 1 → IfOk result (λ line. string_bytes line ≡ malformed_text malformed first ++ wrong_text wrong) }
+{
+    let mut line = if malformed == 1 {
+        format!(in alloc; "blink: 1 request was malformed: line {first}")?
+    } else {
+        format!(in alloc; "blink: {malformed} requests were malformed; the first is line {first}")?
+    };
+    let words = wrong_words(alloc, wrong)?;
+    line.push_str(words.as_str())?;
+    Ok(line)
 }

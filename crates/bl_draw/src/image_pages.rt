@@ -7,6 +7,8 @@ use std::alloc::{AllocError, Global};
 
 /// The bytes of an image's head.
 const HEAD: usize = 32;
+/// The version of large images.
+const LARGE: u64 = 2;
 /// The bytes of a page.
 const PAGE: usize = 256;
 
@@ -15,6 +17,8 @@ const PAGE: usize = 256;
 pub(crate) struct Found {
     /// Each page by its number; None where it is not in use, or where no page can be read.
     pub(crate) pages: Vec<Option<Page>>,
+    /// So many pages there are: of a large image those behind the last one in use are not stored.
+    pub(crate) count: usize,
     /// The numbers of those whose words are no page's.
     pub(crate) unread: Vec<u32>,
 }
@@ -37,9 +41,20 @@ fn words_at(bytes: &[u8], at: usize) -> [u64; 32] {
     words
 }
 
+/// How many pages there are, where so many are stored: as the head of a large image says, if it says more.
+fn count_in(bytes: &[u8], stored: usize) -> usize {
+    let told = word_at(bytes, 8);
+    if bytes.starts_with(b"BLNKIDX1") && told % KIND_UNIT == LARGE {
+        stored.max(((told / KIND_UNIT) as usize).min(MOST_LARGE_PAGES as usize))
+    } else {
+        stored
+    }
+}
+
 /// The pages behind a head, also where the head is damaged or a part of the last page is cut off, which is then left out.
 pub(crate) fn found_in(alloc: Global, bytes: &[u8]) -> Result<Found, AllocError> {
-    let count = (bytes.len().saturating_sub(HEAD) / PAGE).min(MOST_LARGE_PAGES as usize);
+    let stored = (bytes.len().saturating_sub(HEAD) / PAGE).min(MOST_LARGE_PAGES as usize);
+    let count = count_in(bytes, stored);
     let most = if count > MOST_PAGES as usize {
         KIND_UNIT
     } else {
@@ -47,7 +62,7 @@ pub(crate) fn found_in(alloc: Global, bytes: &[u8]) -> Result<Found, AllocError>
     };
     let mut pages = Vec::new(alloc);
     let mut unread = Vec::new(alloc);
-    for x in 0..count {
+    for x in 0..stored {
         let words = words_at(bytes, HEAD + PAGE * x);
         if words == [0; 32] {
             pages.push(None)?;
@@ -61,5 +76,9 @@ pub(crate) fn found_in(alloc: Global, bytes: &[u8]) -> Result<Found, AllocError>
             }
         }
     }
-    Ok(Found { pages, unread })
+    Ok(Found {
+        pages,
+        count,
+        unread,
+    })
 }

@@ -296,7 +296,7 @@ fn push_head(
     tree: &Tree,
     broken: Option<(u32, u32)>,
 ) -> Result<(), AllocError> {
-    let words = head_text(alloc, tree.pages.len(), used_in(tree.pages.as_slice()))?;
+    let words = head_text(alloc, tree.count, used_in(tree.pages.as_slice()))?;
     push_words(alloc, out, Spot { x: EDGE, y: 24 }, "b", words.as_str())?;
     let dead = tree.dead.len();
     let unread = tree.unread.len();

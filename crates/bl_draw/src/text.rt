@@ -170,7 +170,7 @@ fn push_numbers(
 /// Writes the whole tree: a heading, the levels from the top, and the pages that are dead or cannot be read.
 fn push_tree(alloc: Global, lines: &mut Lines, tree: &Tree) -> Result<(), AllocError> {
     let used = used_in(tree.pages.as_slice());
-    let head = head_text(alloc, tree.pages.len(), used)?;
+    let head = head_text(alloc, tree.count, used)?;
     lines.push_line(head.as_str())?;
     if !tree.levels.is_empty() {
         lines.push_line("a page: number [its least key, its bound) entries; > is its link")?;

@@ -35,6 +35,8 @@ impl Level {
 pub(crate) struct Tree {
     /// Each page by its number, None where there is none.
     pub(crate) pages: Vec<Option<Page>>,
+    /// How many pages there are: of a large image those behind the last one in use are not among `pages`.
+    pub(crate) count: usize,
     /// From the top down.
     pub(crate) levels: Vec<Level>,
     /// Pages whose words are no page's.
@@ -151,6 +153,7 @@ pub(crate) fn tree_in(alloc: Global, bytes: &[u8]) -> Result<Tree, AllocError> {
     let dead = dead_in(alloc, found.pages.as_slice())?;
     Ok(Tree {
         pages: found.pages,
+        count: found.count,
         levels,
         unread: found.unread,
         dead,

@@ -6,7 +6,7 @@ use Rattle.std.proofs.Math.Seq.{take-append_seam, drop-append_seam}
 use mir.Val.{to_z, of_z}
 use mir.Syntax.{w32}
 use Rattle.bl_page.specs.declared.page.Page.{Page}
-use Rattle.bl_image.specs.Images.{IsImage}
+use Rattle.bl_image.specs.Images.{IsImage, image_size}
 use Rattle.bl_index.specs.Calls.{pages_of}
 use Rattle.bl_index.specs.declared.index.Index.{Index}
 use Rattle.bl_ffi_seats.specs.declared.closing.CloseFault.{CloseFault}
@@ -43,12 +43,13 @@ back_fits old back fault.Shared h = (let same = ap length h.1 in omega (arith, s
 back_fits old back fault.Memory h = (let same = ap length h.1 in omega (arith, same))
 back_fits old back fault.Lost h = (let same = ap length h.1 in omega (arith, same))
 
-pub closed_to : (seats : List Seat) (places : List (Option Seat)) (old spelled : List ℕ) (long n : ℕ) (pages : List (Option Page)) → HaveClosed seats pages → n ≡ length seats → places ≡ closed n → IsImage pages spelled → length spelled ≡ long
+pub closed_to : (seats : List Seat) (places : List (Option Seat)) (old spelled : List ℕ) (long n : ℕ) (pages : List (Option Page)) → HaveClosed seats pages → n ≡ length seats → places ≡ closed n → IsImage pages spelled → length spelled ≡ long → long ≡ image_size pages
     → IsClosedTo seats places old (spelled ++ drop long old) long
-closed_to seats places old spelled long n pages done many empty image fits = record {
+closed_to seats places old spelled long n pages done many empty image fits size = record {
   pages = pages;
   have_closed = done;
   are_closed = empty ∙ ap closed many;
   image = subst (IsImage pages) (sym (ap (λ (k : ℕ). take k (spelled ++ drop long old)) (sym fits) ∙ take-append_seam spelled (drop long old))) image;
+  fits = size;
   rest = ap (λ (k : ℕ). drop k (spelled ++ drop long old)) (sym fits) ∙ drop-append_seam spelled (drop long old);
 }

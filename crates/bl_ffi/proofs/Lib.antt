@@ -5,3 +5,4 @@ pub mod Placing
 pub mod ClosedTo
 pub mod Listing
 pub mod RangeCodes
+pub mod ScanCodes

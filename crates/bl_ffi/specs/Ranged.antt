@@ -16,10 +16,14 @@ IsCodeOfStop fault.Memory code = code ≡ pos 7
 IsCodeOfStop fault.OutOfTurns code = code ≡ pos 4
 IsCodeOfStop fault.Unsteady code = code ≡ pos 18
 
--- There are so many rows, and they are the first ones of the array, whose others are as they were; or it has too little room, and is as it was.
+-- They are the first ones of the array, whose others are as they were.
+abbrev pub AreFirstOf : List (ℕ × ℕ) → List Row → List Row → Type 0
+AreFirstOf pairs old new = new ≡ map row_of pairs ++ drop (length pairs) old
+
+-- There are so many rows, and they are in the array; or it has too little room, and is as it was.
 abbrev pub IsWritten : List (ℕ × ℕ) → List Row → List Row → ℕ → ℤ → Type 0
 IsWritten pairs old new count code = (count ≡ length pairs)
-    × (((code ≡ pos 0) × (new ≡ map row_of pairs ++ drop (length pairs) old)) ⊎ ((code ≡ pos 10) × (length old < length pairs) × (new ≡ old)))
+    × (((code ≡ pos 0) × AreFirstOf pairs old new) ⊎ ((code ≡ pos 10) × (length old < length pairs) × (new ≡ old)))
 
 -- The seat has read the range, and its rows are written; or the range has stopped, for the reason that the code tells: then nothing is written.
 -- It loses no upkeep.

@@ -5,7 +5,7 @@ use denote.RawPtr.{Ptr}
 use mathlib.Core.Option.{some}
 use lib.ListN.{get_elem?}
 use Rattle.bl_page.specs.declared.page.Page.{Page}
-use Rattle.bl_image.specs.Images.{IsImage}
+use Rattle.bl_image.specs.Images.{IsImage, image_size}
 use Rattle.bl_index.specs.Calls.{pages_of}
 use Rattle.bl_ffi_seats.specs.declared.closing.CloseFault.{CloseFault}
 use Rattle.bl_ffi_seats.specs.declared.closing.CloseFault.TheVariants as fault
@@ -60,9 +60,10 @@ pub record IsClosedTo (seats : List Seat) (places : List (Option Seat)) (old new
   pub have_closed : HaveClosed seats pages
   pub are_closed : places ≡ closed (length seats)
   pub image : IsImage pages (take long new)
+  pub fits : long ≡ image_size pages
   pub rest : drop long new ≡ drop long old
 
--- its image has that length, which is more than there is room for
+-- the longest image of so many pages has that length, which is more than there is room for
 abbrev pub IsTooLong : List Seat → List ℕ → ℕ → Type 0
 IsTooLong seats bytes long = All (λ s. long ≡ 32 + 256 * pages_of (arc_value s.index)) seats × (length bytes < long)
 

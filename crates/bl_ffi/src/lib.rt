@@ -12,6 +12,7 @@ mod opening;
 mod places;
 mod ranging;
 mod saving;
+mod scanning;
 mod seat;
 mod stats;
 mod together;
@@ -23,6 +24,7 @@ pub use calls::{
 pub use opening::{blink_open, blink_open_image, blink_open_larger};
 pub use ranging::blink_try_range;
 pub use saving::blink_image_of;
+pub use scanning::{blink_try_scan, blink_try_scan_down};
 pub use seat::{Hidden, SeatOfC};
 pub use stats::{Stats, blink_stat};
 pub use together::{blink_image_length, blink_place, blink_try_close_image, blink_try_meet};

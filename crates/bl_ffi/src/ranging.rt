@@ -1,8 +1,8 @@
-//! Ranges: the rows between two keys as the map had them at one moment.
+//! Ranges: the rows between two keys as the map had them at one moment, and how many rows are handed to C.
 
-ghost use Rattle.std.specs.Prelude.{◌≡◌, ◌≢◌, ◌<◌, ◌≤◌, pos};
+ghost use Rattle.std.specs.Prelude.{◌≡◌, ◌≢◌, ◌<◌, ◌≤◌, pos, length};
 ghost use Rattle.bl_ffi.specs.Told.{Calls, StaysAsItWas};
-ghost use Rattle.bl_ffi.specs.Ranged.{end_behind, IsCodeOfStop, IsWritten, RangesRows};
+ghost use Rattle.bl_ffi.specs.Ranged.{end_behind, AreFirstOf, IsCodeOfStop, IsWritten, RangesRows};
 
 use crate::calls::Row;
 use crate::codes::{AGAIN, CLOSED, FEW_ROWS, NO_MEMORY, OK, UNSTEADY};
@@ -22,6 +22,17 @@ fn code_of(why: RangeFault) -> i32
     }
 }
 
+/// Writes rows into the caller's array, which has room for all, as its first ones.
+pub(crate) fn copied(pairs: &[(u64, u64)], rows: &mut [Row])
+    requires { length pairs.now ≤ length rows.old }
+    ensures { AreFirstOf pairs.now rows.old rows.new }
+{
+    for number in 0..pairs.len() {
+        let (key, value) = pairs[number];
+        rows[number] = Row { key, value };
+    }
+}
+
 /// Says how many rows there are, and writes them into the caller's array where all fit.
 fn written(pairs: &[(u64, u64)], rows: &mut [Row], count: &mut u64) -> i32
     ensures { IsWritten pairs.now rows.old rows.new count.new result }
@@ -30,15 +41,12 @@ fn written(pairs: &[(u64, u64)], rows: &mut [Row], count: &mut u64) -> i32
     if rows.len() < pairs.len() {
         return FEW_ROWS;
     }
-    for number in 0..pairs.len() {
-        let (key, value) = pairs[number];
-        rows[number] = Row { key, value };
-    }
+    copied(pairs, rows);
     OK
 }
 
 /// The key behind the last one of a range, if there is one.
-fn end_behind(last: u64) -> Option<u64>
+pub(crate) fn end_behind(last: u64) -> Option<u64>
     ensures { result ≡ end_behind last }
 {
     last.checked_add(1)

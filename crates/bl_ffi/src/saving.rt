@@ -55,8 +55,10 @@ pub extern "C" fn blink_image_of(
     };
     match image_of(alloc, pairs.as_slice(), pages, fill) {
         Ok(quiet) => {
-            *long = needed;
-            quiet.image().spell(&mut bytes[..needed as usize]);
+            let image = quiet.image();
+            let size = image.size();
+            *long = size;
+            image.spell(&mut bytes[..size as usize]);
             OK
         }
         Err(why) => code_of(why),

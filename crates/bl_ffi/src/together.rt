@@ -45,7 +45,7 @@ pub extern "C" fn blink_place(alloc: Global, seat: &mut SeatOfC, place: &mut *co
     OK
 }
 
-/// How many bytes the image of a map of so many pages has.
+/// How many bytes the image of a map of so many pages has at most.
 #[unsafe(no_mangle)]
 pub extern "C" fn blink_image_length(pages: u32) -> u64
     ensures { result ≡ 32 + 256 * pages }
@@ -64,7 +64,7 @@ fn code_of(why: CloseFault) -> i32
     }
 }
 
-/// The map of all these seats is closed, if there is room for its image. Else those that come back are put into their places.
+/// The map of all these seats is closed, if there is room for the longest image of so many pages. Else those that come back are put into their places.
 fn close_boxes(
     alloc: Global,
     places: &mut [SeatOfC],
@@ -88,8 +88,10 @@ fn close_boxes(
     }
     match close(alloc, boxes) {
         Ok(quiet) => {
-            *long = needed;
-            quiet.image().spell(&mut bytes[..needed as usize]);
+            let image = quiet.image();
+            let size = image.size();
+            *long = size;
+            image.spell(&mut bytes[..size as usize]);
             OK
         }
         Err((boxes, why)) => {

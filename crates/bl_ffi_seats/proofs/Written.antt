@@ -10,7 +10,7 @@ use Rattle.bl_model.specs.Writes.{write_op}
 use Rattle.bl_index.specs.Calls.{first_of, number_of, trail, StaysAlone}
 use Rattle.bl_index.specs.declared.index.Index.{Index}
 use Rattle.bl_map_calls.specs.Works.{Works, Adds, FoundNoRoom}
-use Rattle.bl_map_calls.specs.Tries.{WritesAtOnce, WritesNone, IsRefused}
+use Rattle.bl_map_tries.specs.Tries.{WritesAtOnce, WritesNone, IsRefused}
 use Rattle.bl_ffi_seats.specs.declared.seat.Seat.{Seat}
 use Rattle.bl_ffi_seats.specs.Seats.{HasWritten, HasNotWritten}
 

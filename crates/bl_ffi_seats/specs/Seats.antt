@@ -1,5 +1,5 @@
 -- What a call of a seat promises: what the map's same call does, or that it is to be made again.
-use Rattle.std.specs.Prelude.{◌≡◌, ℕ, List, Option}
+use Rattle.std.specs.Prelude.{◌≡◌, ℕ, List, [], Option, Result}
 use Rattle.std.specs.Arc.{arc_value}
 use Rattle.bl_model.specs.declared.deciding.KeyWrite.{KeyWrite}
 use Rattle.bl_model.specs.declared.operation.KeyReply.{KeyReply}
@@ -8,14 +8,17 @@ use Rattle.bl_model.specs.declared.operation.Op.{Op}
 use Rattle.bl_model.specs.declared.operation.Reply.{Reply}
 use Rattle.bl_model.specs.Replies.{reply_of}
 use Rattle.bl_page.specs.declared.page.Page.{Page}
+use Rattle.bl_proc.specs.declared.parts.Direction.{Direction}
 use Rattle.bl_claims.specs.Trails.{Trail}
 use Rattle.bl_index_read.specs.Searching.{Finds, RunsOut}
 use Rattle.bl_index_range.specs.Ranges.{ReadsRange, StopsRange}
 use Rattle.bl_index_range.specs.declared.ranging.RangeFault.{RangeFault}
 use Rattle.bl_index.specs.Calls.{first_of, pages_of, IsSamePass, number_of, trail, StaysAlone, AllSwept}
+use Rattle.bl_index.specs.Limits.{ScansSome}
 use Rattle.bl_index.specs.Meetings.{Meet}
+use Rattle.bl_index.specs.declared.scanning.ScanFault.{ScanFault}
 use Rattle.bl_map_calls.specs.Works.{Works, Adds, Swept, FoundNoRoom}
-use Rattle.bl_map_calls.specs.Tries.{WritesAtOnce, WritesNone, IsRefused, KeepsUp, HasNothingToDo}
+use Rattle.bl_map_tries.specs.Tries.{WritesAtOnce, WritesNone, IsRefused, KeepsUp, HasNothingToDo}
 use Rattle.bl_ffi_seats.specs.declared.seat.Seat.{Seat}
 
 -- what the index began with
@@ -63,6 +66,11 @@ abbrev pub HasStopped : ℕ → Option ℕ → ℕ → RangeFault → Seat → S
 HasStopped from to rounds fault old new =
     StopsRange (first_of_seat old) (pages_of_seat old) (seat_number old) (pages_of_seat old) rounds from to fault (seen_at old) (seen_at new)
 
+-- A scan has listed these rows, so many at most, and tells where the next one begins, or why it has stopped.
+abbrev pub HasListed : Direction → ℕ → Option ℕ → ℕ → ℕ → Result (Option ℕ) ScanFault → List (ℕ × ℕ) → Seat → Seat → Type 0
+HasListed direction from to most room result rows old new =
+    ScansSome (first_of_seat old) (pages_of_seat old) (seat_number old) (pages_of_seat old) direction from to most room result [] rows (seen_at old) (seen_at new)
+
 -- A write was answered so, as the same call of the map. Where there was no room, what it wanted is what the pass was refused last.
 pub record HasWritten (op : Op) (key : ℕ) (write : KeyWrite) (reply : KeyReply) (old new : Seat) : Type 0 where
   pub works : Works (first_of_seat old) (seat_number old) op (reply_of reply) (seen_at old) (seen_at new)
@@ -79,7 +87,7 @@ pub record HasNotWritten (old new : Seat) : Type 0 where
 -- Upkeep was done, so many pieces of it, and then the seat has given back what was swapped out.
 pub record HasKeptUp (most : ℕ) (old new : Seat) : Type 0 where
   pub mid : Trail
-  pub keeps : KeepsUp (first_of_seat old) (seat_number old) most old.waiting new.waiting (seen_at old) mid
+  pub keeps : KeepsUp (first_of_seat old) (pages_of_seat old) (seat_number old) most old.waiting new.waiting old.walk new.walk (seen_at old) mid
   pub sweeps : Swept (first_of_seat old) (seat_number old) mid (seen_at new)
   pub swept : AllSwept new.pass
 

@@ -13,7 +13,9 @@ mod opening;
 mod ranging;
 mod seat;
 
-pub use bl_index::{Direction, KeyReply, KeyWrite, Next, OpenFault, OutOfTurns, RangeFault, Reply};
+pub use bl_index::{
+    Direction, KeyReply, KeyWrite, Next, OpenFault, OutOfTurns, RangeFault, Reply, ScanFault,
+};
 pub use closing::{CloseFault, close};
 pub use opening::{ImageFault, open, open_image, open_larger};
 pub use seat::Seat;

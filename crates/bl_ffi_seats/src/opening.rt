@@ -12,7 +12,7 @@ ghost use Rattle.bl_ffi_seats.specs.Opened.{AreSeatsOf, AreSeatsOpened, AreReope
 use crate::seat::Seat;
 use bl_check::{Fault, Quiet, load};
 use bl_index::{Config, Index, OpenFault, Pass};
-use bl_map_calls::walking::Walk;
+use bl_map_tries::walking::Walk;
 use bl_waiting::Waiting;
 use std::alloc::{AllocError, Global};
 use std::sync::Arc;
@@ -78,12 +78,12 @@ pub fn open_image(alloc: Global, bytes: &[u8], seats: u32) -> Result<Vec<Seat>, 
     ensures ok { IfOk result (λ v. AreReopened bytes.now seats v.items) }
     ensures fault { IfErr result (IsImageFault bytes.now seats) }
 {
-    match Index::open_image(alloc, loaded(alloc, bytes)?, seats) {
+    match Index::begin_with(alloc, loaded(alloc, bytes)?, seats) {
         Ok((index, passes)) => match shared(alloc, index, passes) {
             Ok(seats) => Ok(seats),
             Err(_) => Err(ImageFault::Memory),
         },
-        Err((_, why)) => Err(fault_of(why)),
+        Err(why) => Err(fault_of(why)),
     }
 }
 

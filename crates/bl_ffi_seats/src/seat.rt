@@ -5,8 +5,8 @@ ghost use Rattle.bl_index.specs.Calls.{IsPassOf};
 ghost use Rattle.bl_map_calls.specs.Seats.{IsPassOf-prop};
 
 use bl_index::{Direction, Index, KeyReply, KeyWrite, OutOfTurns, Pass, Reply, RoomSeen};
-use bl_map_calls::trying;
-use bl_map_calls::walking::Walk;
+use bl_map_tries::trying;
+use bl_map_tries::walking::Walk;
 use bl_waiting::Waiting;
 use std::alloc::Global;
 use std::ptr;

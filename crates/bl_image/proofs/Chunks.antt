@@ -3,7 +3,7 @@ use Rattle.std.proofs.Common.{◌≡◌, ℕ, zero, suc, ◌+◌, ◌*◌, ◌-�
 use Rattle.std.specs.Prelude.{flat_map, replicate, IfSome, MatchOption}
 use Rattle.std.specs.List.{AllByRecursion}
 use Rattle.std.proofs.lemmas.Nat.{from_le_bytes-to_le_bytes_8}
-use Rattle.std.proofs.lemmas.List.{append-nil, take_at, drop_at, drop-drop, take_all, length-replicate, length-drop, take-append-drop}
+use Rattle.std.proofs.lemmas.List.{append-nil, take_at, drop_at, drop-drop, length-replicate}
 use Rattle.std.proofs.lemmas.List.Concat.{flat_map-append}
 use Rattle.byteorder.specs.Endian.{little_bytes, little_number}
 use Rattle.bl_page.specs.declared.page.Page.{Page}
@@ -13,9 +13,7 @@ use Rattle.bl_page.specs.Faults.{Kind, number, kind_in}
 use Rattle.bl_page.proofs.Writing.{length-entries_of}
 use Rattle.bl_page.proofs.FaultLemmas.{kind_of, fits}
 use Rattle.bl_page.proofs.Once.{once}
-use Rattle.bl_image.specs.Images.{word_bytes, page_words, page_bytes, image_bytes, head_bytes, bound_of, Fits64, NamesBelow, AreWithin, IsCount, IsHead, IsImage, IsFault, ArePage, chunk}
-use Rattle.bl_image.specs.declared.fault.ImageFault.{ImageFault}
-use Rattle.bl_image.specs.declared.fault.ImageFault.TheVariants as fault
+use Rattle.bl_image.specs.Images.{word_bytes, page_words, page_bytes, Fits64, NamesBelow, ArePage, chunk}
 
 pub no_kind : (p : Page) → words_of p ≡ replicate 32 0 → ⊥
 no_kind p e = let kind : kind_in (words_of p) ≡ 0 = ap kind_in e in no_number (kind_of p) (sym (fits p).is_of ∙ kind)
@@ -81,10 +79,10 @@ first_page x [] lt = absurd (omega arith)
 first_page zero (page ∷ pages) lt = take_at (page_bytes page) (flat_map page_bytes pages) 256 (length-page_bytes page)
 first_page (suc x) (page ∷ pages) lt = first_page x pages (omega arith)
 
--- the bytes of page x of an image
-pub chunk_is : (x : ℕ) (pages : List (Option Page)) (bytes : List ℕ) → bytes ≡ image_bytes pages → x < length pages → chunk bytes x ≡ page_bytes (get_or pages x None)
-chunk_is x pages bytes is lt =
-    ap (λ b. chunk b x) is ∙ ap (take 256) (sym (drop-drop (256 * x) 32 (image_bytes pages)) ∙ drop-pages x pages) ∙ first_page x pages lt
+-- the bytes of page x among those of stored pages
+pub chunk_stored : (x : ℕ) (pages : List (Option Page)) (bytes : List ℕ) → flat_map page_bytes pages ≡ drop 32 bytes → x < length pages → chunk bytes x ≡ page_bytes (get_or pages x None)
+chunk_stored x pages bytes is lt =
+    ap (take 256) (sym (drop-drop (256 * x) 32 bytes) ∙ ap (drop (256 * x)) (sym is) ∙ drop-pages x pages) ∙ first_page x pages lt
 
 pub fits_at : (x : ℕ) (pages : List (Option Page)) → AllByRecursion (λ page. Fits64 (page_words page)) pages → x < length pages → Fits64 (page_words (get_or pages x None))
 fits_at x [] h lt = absurd (omega arith)
@@ -99,24 +97,6 @@ below_at most (suc x) (page ∷ pages) h lt = below_at most x pages h.1 (omega a
 pub below_more : (most : ℕ) (pages : List (Option Page)) (page : Option Page) → AllByRecursion (NamesBelow most) pages → NamesBelow most page → AllByRecursion (NamesBelow most) (pages ++ page ∷ [])
 below_more most [] page h is = (is, tt)
 below_more most (first ∷ pages) page h is = (h.0, below_more most pages page h.1 is)
-
-pub head_of_image : (pages : List (Option Page)) (bytes : List ℕ) → IsImage pages bytes → IsHead bytes (length pages)
-head_of_image pages bytes image = record {
-  count_fits = image.count;
-  long = let size = length-pages pages in let same : length bytes ≡ length (image_bytes pages) = ap length image.bytes_are in omega (arith, size, same);
-  head = ap (take 32) image.bytes_are;
-}
-
-same_count : (bytes : List ℕ) (a b : ℕ) → IsHead bytes a → IsHead bytes b → a ≡ b
-same_count bytes a b p q = omega (arith, p.long, q.long)
-
--- no fault but want of memory is found in an image
-pub no_page_fault : (pages : List (Option Page)) (bytes : List ℕ) (x : ℕ) → IsImage pages bytes → AreWithin pages → IsFault (fault.Page x) bytes → ⊥
-no_page_fault pages bytes x image small (count, head, below, other, least) =
-    let same = same_count bytes count (length pages) head (head_of_image pages bytes image) in
-    let lt : x < length pages = omega (arith, below, same) in
-    let names : NamesBelow (bound_of count) (get_or pages x None) = subst (λ (n : ℕ). NamesBelow (bound_of n) (get_or pages x None)) (sym same) (below_at (bound_of (length pages)) x pages small lt) in
-    other (get_or pages x None, names, fits_at x pages image.words lt, chunk_is x pages bytes image.bytes_are lt)
 
 pub take-more : (m n : ℕ) (xs : List ℕ) → take (m + n) xs ≡ take m xs ++ take n (drop m xs)
 take-more zero n xs = ap (λ k. take k xs) (let e : 0 + n ≡ n = omega arith in e)
@@ -144,7 +124,7 @@ pages_words-same (Some p) (Some q) e = ap Some (once p q e)
 pub page_bytes-same : (a b : Option Page) → Fits64 (page_words a) → Fits64 (page_words b) → page_bytes a ≡ page_bytes b → a ≡ b
 page_bytes-same a b small_a small_b e = pages_words-same a b (word_bytes-same (page_words a) (page_words b) (length-page_words a ∙ sym (length-page_words b)) small_a small_b e)
 
-pages-same : (a b : List (Option Page)) → AllByRecursion (λ page. Fits64 (page_words page)) a → AllByRecursion (λ page. Fits64 (page_words page)) b → length a ≡ length b
+pub pages-same : (a b : List (Option Page)) → AllByRecursion (λ page. Fits64 (page_words page)) a → AllByRecursion (λ page. Fits64 (page_words page)) b → length a ≡ length b
     → flat_map page_bytes a ≡ flat_map page_bytes b → a ≡ b
 pages-same [] [] small_a small_b long e = refl
 pages-same [] (q ∷ b) small_a small_b long e = absurd (omega arith)
@@ -153,22 +133,6 @@ pages-same (p ∷ a) (q ∷ b) small_a small_b long e =
     let first = sym (take_at (page_bytes p) (flat_map page_bytes a) 256 (length-page_bytes p)) ∙ ap (take 256) e ∙ take_at (page_bytes q) (flat_map page_bytes b) 256 (length-page_bytes q) in
     let rest = sym (drop_at (page_bytes p) (flat_map page_bytes a) 256 (length-page_bytes p)) ∙ ap (drop 256) e ∙ drop_at (page_bytes q) (flat_map page_bytes b) 256 (length-page_bytes q) in
     ap (λ x. x ∷ a) (page_bytes-same p q small_a.0 small_b.0 first) ∙ ap (λ t. q ∷ t) (pages-same a b small_a.1 small_b.1 (omega arith) rest)
-
--- no two lists of pages have the same image
-pub image_same : (a b : List (Option Page)) (bytes : List ℕ) → IsImage a bytes → IsImage b bytes → a ≡ b
-image_same a b bytes p q =
-    let count = same_count bytes (length a) (length b) (head_of_image a bytes p) (head_of_image b bytes q) in
-    pages-same a b p.words q.words count (ap (drop 32) (sym p.bytes_are ∙ q.bytes_are))
-
--- what is read of one head and so many pages
-pub image_is : (pages : List (Option Page)) (bytes : List ℕ) (count : ℕ) → IsHead bytes count → length pages ≡ count → AllByRecursion (λ page. Fits64 (page_words page)) pages
-    → flat_map page_bytes pages ≡ take (256 * count) (drop 32 bytes) → IsImage pages bytes
-image_is pages bytes count head long words is = record {
-  count = subst IsCount (sym long) head.count_fits;
-  words = words;
-  bytes_are = sym (take-append-drop 32 bytes) ∙ ap (λ t. t ++ drop 32 bytes) (head.head ∙ ap head_bytes (sym long))
-      ∙ ap (λ t. head_bytes (length pages) ++ t) (sym (is ∙ take_all (256 * count) (drop 32 bytes) (omega (arith, length-drop 32 bytes, head.long))));
-}
 
 pub fit_more : (pages : List (Option Page)) (page : Option Page) → AllByRecursion (λ page. Fits64 (page_words page)) pages → Fits64 (page_words page) → AllByRecursion (λ page. Fits64 (page_words page)) (pages ++ page ∷ [])
 fit_more [] page h is = (is, tt)
@@ -182,12 +146,6 @@ bytes_more pages new page x bytes is here so_far =
     ap (flat_map page_bytes) is ∙ flat_map-append page_bytes pages (page ∷ []) ∙ ap (λ t. flat_map page_bytes pages ++ t) (append-nil (page_bytes page))
     ∙ ap (λ t. t ++ page_bytes page) so_far ∙ ap (λ t. take (256 * x) (drop 32 bytes) ++ t) (sym here ∙ ap (take 256) (sym (drop-drop (256 * x) 32 bytes)))
     ∙ sym (take-more (256 * x) 256 (drop 32 bytes)) ∙ ap (λ n. take n (drop 32 bytes)) (sym e)
-
--- an image is read unless memory runs out
-pub read_fault : (f : ImageFault) (pages : List (Option Page)) (bytes : List ℕ) → IsFault f bytes → IsImage pages bytes → AreWithin pages → f ≡ fault.Memory
-read_fault fault.Head pages bytes h image small = absurd (h (length pages) (head_of_image pages bytes image))
-read_fault (fault.Page x) pages bytes h image small = absurd (no_page_fault pages bytes x image small h)
-read_fault fault.Memory pages bytes h image small = refl
 
 -- what the words of page x were found to be
 pub page_found : (most : ℕ) (o : Option (Option Page)) (words bytes : List ℕ) → length words ≡ 32 → Fits64 words → word_bytes words ≡ bytes → IfSome o (λ page. words ≡ page_words page)

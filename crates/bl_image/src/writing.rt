@@ -1,20 +1,20 @@
 //! Writing an image.
 
-ghost use Rattle.std.specs.Prelude.{◌≡◌, ◌^◌, ◌≤◌, true, false, List, ℕ, length, flat_map, OnOk, OnErr};
+ghost use Rattle.std.specs.Prelude.{◌≡◌, true, false, List, ℕ, length, flat_map, OnOk, OnErr};
 ghost use Rattle.std.specs.List.{AllByRecursion};
 ghost use Rattle.std.specs.Io.KnownBytes.{Appends};
 ghost use Rattle.bl_model.specs.Stream.{StartsOut};
-ghost use Rattle.bl_image.specs.Images.{IsImage, Fits64, page_words, page_bytes, image_bytes};
+ghost use Rattle.bl_image.specs.Images.{IsCount, IsImage, Fits64, page_words, page_bytes, image_bytes};
 
 use crate::fault::WriteFault;
 use crate::head::head_of;
-use crate::image::Image;
+use crate::image::{Image, stored_of};
 use crate::words::{bytes_of, words_of};
 use bl_model::{Failed, Watched, write_text};
 use bl_page::Page;
 use std::io::Write;
 
-/// Writes the bytes of each page.
+/// Writes the bytes of each of these pages.
 fn write_pages<W: Write>(writer: &mut Watched<W>, pages: &[Option<Page>]) -> Result<(), Failed>
     ensures ok { OnOk result (Appends (W.contents writer.old.inner) (W.contents writer.new.inner)
         (flat_map page_bytes pages.now)) }
@@ -29,9 +29,9 @@ fn write_pages<W: Write>(writer: &mut Watched<W>, pages: &[Option<Page>]) -> Res
     Ok(())
 }
 
-/// Writes the head and the pages, and flushes the writer.
+/// Writes the head and the pages that are stored, and flushes the writer.
 fn write_image<W: Write>(writer: &mut Watched<W>, pages: &[Option<Page>]) -> Result<(), Failed>
-    requires { length pages.now ≤ 2 ^ 28 }
+    requires { IsCount (length pages.now) }
     ensures ok { OnOk result (Appends (W.contents writer.old.inner) (W.contents writer.new.inner)
         (image_bytes pages.now)) }
     ensures flushed { OnOk result (writer.new.pending ≡ false) }
@@ -40,8 +40,9 @@ fn write_image<W: Write>(writer: &mut Watched<W>, pages: &[Option<Page>]) -> Res
         (image_bytes pages.now)) }
     ensures failed { OnErr result (writer.new.failed ≡ true) }
 {
-    write_text(writer, &head_of(pages.len() as u32))?;
-    write_pages(writer, pages)?;
+    let stored = stored_of(pages);
+    write_text(writer, &head_of(pages.len() as u32, stored as u32))?;
+    write_pages(writer, &pages[..stored])?;
     match writer.flush() {
         Ok(()) => Ok(()),
         Err(_) => Err(Failed),

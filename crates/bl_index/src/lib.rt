@@ -16,6 +16,7 @@ mod compressing;
 mod config;
 mod editing;
 mod finding;
+mod image_words;
 mod index;
 mod limiting;
 mod listing;

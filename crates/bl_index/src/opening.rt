@@ -7,6 +7,7 @@ ghost use Rattle.bl_index_rule.specs.Simulation.{beginner as unborn_pass, Simula
 ghost use Rattle.bl_index.specs.Opened.{IsRefusal, IsLargeRefusal, IsRefusalOf, IsFirstAnchor, IsFirstLeaf, IsFirst, AreFirst, AreNew, ArePasses, IsBegun, IsIndexOpened, IsReopenedIn, IsLargerRefusal, IsReopened, IsImageRefusal};
 
 use crate::config::{Config, OpenFault};
+use crate::image_words::{ImageWords, QuietWords};
 use crate::index::{Index, Pass};
 use arrayvec::ArrayVec;
 use bl_check::Quiet;
@@ -16,6 +17,7 @@ use bl_layout::Layout;
 use bl_model::limits::{LEAST_PAGES, MOST_LARGE_PAGES, MOST_PAGES};
 use bl_page::{Anchor, Leaf, Page};
 use bl_proc::{Find, FindStage, Proc};
+use bl_room::FirstWords;
 use bl_store::{Hand, Store};
 use std::alloc::{AllocError, Global};
 use std::collections::LinkedList;
@@ -162,26 +164,28 @@ impl Index {
     {
         let words = first_pages(alloc, PAGES_AT_FIRST)?;
         let image = no_pages(alloc);
-        Self::begun(alloc, words.as_slice(), config, &image)
+        let first = FirstPages::of(&image);
+        let observed = FirstPages::of(&image);
+        Self::begun(alloc, words, config, first, observed)
     }
 
-    // An index whose first pages have these words, which are those of the image, or of the opening index where there is no image. All other
-    // pages are free.
-    fn begun(
+    // An index whose first pages have these words, which are those of the pages that it begins with, or of the opening index where it
+    // begins with none. All other pages are free.
+    fn begun<F: FirstWords + Drop>(
         alloc: Global,
-        words: &[[u64; 32]],
+        words: F,
         config: Config,
-        image: &Vec<Option<Page>>,
+        first: FirstPages<Page>,
+        observed: FirstPages<Page>,
     ) -> Result<(Index, Vec<Pass>), AllocError>
         requires pages { (4 ≤ config.pages) × (config.pages ≤ 2 ^ 28) }
         requires passes { (1 ≤ config.passes) × (config.passes ≤ 64) }
-        requires words { length words.now ≤ config.pages }
-        requires rule { Simulates (store_pages (padded config.pages words.now) config.passes (unborn_pass image.now.items)) }
-        requires seen { IsSeen image.now.items [] }
-        ensures { IfOk result (λ t. IsBegun image.now.items config.pages config.passes t.0 t.1.items) }
+        requires words { length (F.contents words) ≤ config.pages }
+        requires same { observed ≡ first }
+        requires rule { Simulates (store_pages (padded config.pages (F.contents words)) config.passes (unborn_pass first)) }
+        requires seen { IsSeen first [] }
+        ensures { IfOk result (λ t. IsBegun first config.pages config.passes t.0 t.1.items) }
     {
-        let first = FirstPages::of(image);
-        let observed = FirstPages::of(image);
         let known = beginner(alloc, observed);
         let layout = Layout::of(config.pages, config.passes);
         let (store, hands) = Store::of_layout(alloc, layout, words, &known)?;
@@ -241,7 +245,43 @@ impl Index {
         ensures { IfOk result (λ t. IsReopenedIn quiet.now.image.pages.items config.pages config.passes t.0 t.1.items) }
     {
         let image = quiet.image();
-        let words = image.to_words(alloc)?;
-        Self::begun(alloc, words.as_slice(), config, &image.pages)
+        // Of 64 bits are the words of an image alone.
+        image.is_of_64_bits();
+        let first = FirstPages::of(&image.pages);
+        let observed = FirstPages::of(&image.pages);
+        Self::begun(alloc, ImageWords { image }, config, first, observed)
+    }
+
+    /// The same as `open_image`, but the image is let go when its words stand in the store, so that less memory is taken: by it
+    /// an index takes no more while it is opened than one without rows. Where it is not opened, the image is gone.
+    pub fn begin_with(
+        alloc: Global,
+        quiet: Quiet,
+        passes: u32,
+    ) -> Result<(Index, Vec<Pass>), OpenFault>
+        ensures ok { IfOk result (λ t. IsReopened quiet.image.pages.items passes t.0 t.1.items) }
+        ensures fault { IfErr result (IsImageRefusal passes) }
+    {
+        if passes > 64 || passes < 1 {
+            return Err(OpenFault::Passes);
+        }
+        match Self::made_of(alloc, quiet, passes) {
+            Ok(begun) => Ok(begun),
+            Err(_) => Err(OpenFault::Memory),
+        }
+    }
+
+    /// An index with as many pages as a checked image, which goes.
+    fn made_of(alloc: Global, quiet: Quiet, passes: u32) -> Result<(Index, Vec<Pass>), AllocError>
+        requires { (1 ≤ passes) × (passes ≤ 64) }
+        ensures { IfOk result (λ t. IsReopened quiet.image.pages.items passes t.0 t.1.items) }
+    {
+        let image = quiet.image();
+        image.is_of_64_bits();
+        let first = FirstPages::of(&image.pages);
+        let observed = FirstPages::of(&image.pages);
+        let pages = image.pages.len() as u32;
+        let config = Config { pages, passes };
+        Self::begun(alloc, QuietWords { quiet }, config, first, observed)
     }
 }

@@ -2,7 +2,6 @@ pub mod Adding
 pub mod Listing
 pub mod Finding
 pub mod Following
-pub mod Pieces
 pub mod Lacking
 pub mod Writing
 pub mod Scanning

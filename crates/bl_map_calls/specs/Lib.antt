@@ -4,7 +4,6 @@ pub mod Entries
 pub mod Finds
 pub mod Follows
 pub mod Waits
-pub mod Tries
 pub mod Many
 pub mod Scans
 pub mod Leasts

@@ -168,7 +168,7 @@ pub(crate) fn write<R: Wait>(
 }
 
 /// A row that goes leaves its page with less than before, so a walk may find room again.
-pub(crate) fn note_change(index: &Index, reply: &KeyReply) {
+pub fn note_change(index: &Index, reply: &KeyReply) {
     if let KeyReply::Deleted(_) = reply {
         index.tree().store.room.note_change();
     }

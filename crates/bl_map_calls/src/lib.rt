@@ -4,15 +4,13 @@
 //! merges those that it has left with few rows, takes top levels away that are not needed, and gives back what was swapped out. What finds
 //! no room waits, 32 pieces at most.
 //!
-//! Who may not wait calls `trying`: each call is done, or gives up where it holds no page. It does what waits before it writes, and looks at
-//! pages piece by piece, call by call (`walking`).
+//! Who may not wait has calls of his own, in `bl_map_tries`.
 //!
-//! Promised to `bl_map` and `bl_ffi_seats`, whose handles and seats are a pass with what waits (`bl_waiting`): a call adds one entry to what
+//! Promised to `bl_map`, whose handles are a pass with what waits (`bl_waiting`): a call adds one entry to what
 //! the pass has seen, this operation with this reply (`specs/Works`), or those of its keys, one after another (`specs/Finds`, `Many`,
 //! `Updates`); a scan is parts and nothing else (`specs/Scans`, `Limits`, `Leasts`, `Copies`), and so is a range,
 //! whose rows are those of one moment (`specs/Ranges`). Upkeep adds no entry: it is posts, compressions,
 //! lowerings and sweeps of the pass's own (`specs/Follows`), and a piece is carried out, waits, or is counted as dropped (`specs/Waits`).
-//! A write that gave up has not been done, and adds no entry; one that is refused for want of room is counted (`specs/Tries`).
 #![tactic(auto)]
 
 pub mod calls;
@@ -24,8 +22,6 @@ pub mod many;
 pub mod ranging;
 pub mod room;
 pub mod telling;
-pub mod trying;
 pub mod updating;
 pub mod upkeep;
-pub mod walking;
 pub mod writes;

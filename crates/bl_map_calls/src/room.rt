@@ -1,8 +1,9 @@
 //! Room is made before an insertion that may lack a page, and a map is put in order: thin pages are looked for and merged.
 
-ghost use Rattle.std.specs.Prelude.{◌≡◌};
+ghost use Rattle.std.specs.Prelude.{◌≡◌, false};
 ghost use Rattle.bl_index.specs.Calls.{first_of, IsPassOf, IsSamePass, number_of, trail};
 ghost use Rattle.bl_map_calls.specs.Follows.{KeptUp};
+ghost use Rattle.bl_map_calls.specs.declared.room.Extent.TheVariants as extents;
 ghost use Rattle.bl_map_calls.specs.Waits.{Tidies};
 
 use crate::upkeep::{Followed, LEVELS, Want, follow_hint, wait_for};
@@ -12,21 +13,21 @@ use bl_waiting::Waiting;
 use std::sync::Wait;
 
 /// How often all pages are walked over at most before an insertion that lacks a page. A walk that finds nothing is the last one.
-pub(crate) const WALKS: u32 = 4;
+pub const WALKS: u32 = 4;
 
 /// And how often to put a map in order.
 const ROUNDS: u32 = 64;
 
 /// Where pages are scarce, but there is one for each hand, a walk before an insertion looks at so many pages at most: it is to take no
 /// time that anybody feels.
-pub(crate) const PIECE: u32 = 64;
+pub const PIECE: u32 = 64;
 
 /// How many pieces of upkeep wait at most.
 const WAITING: u32 = 32;
 
 /// How far a walk over pages goes.
 #[derive(Clone, Copy, Debug, PartialEq, Eq)]
-pub(crate) enum Extent {
+pub enum Extent {
     /// To the end.
     Whole,
     /// Until pages are no longer scarce, as soon as those are released that are retired.
@@ -35,14 +36,19 @@ pub(crate) enum Extent {
 
 /// Whether a walk over all pages is to be made for an insertion: not each hand may find a page, and it is not known that a walk would find
 /// nothing.
-pub(crate) fn wants_walk(index: &Index) -> bool {
+pub fn wants_walk(index: &Index) -> bool {
     let room = &index.tree().store.room;
     room.is_short_of_pages() && !room.has_none()
 }
 
-/// Whether a walk has come as far as it is to go.
-pub(crate) fn is_enough(index: &Index, extent: Extent) -> bool {
-    extent == Extent::Enough && index.tree().store.room.is_freeing_enough()
+/// Whether a walk has come as far as it is to go before its end.
+pub fn is_enough(index: &Index, extent: Extent) -> bool
+    ensures { extent ≡ extents.Whole → result ≡ false }
+{
+    match extent {
+        Extent::Whole => false,
+        Extent::Enough => index.tree().store.room.is_freeing_enough(),
+    }
 }
 
 /// Looks for frames before a write. Where it may split a leaf while pages are scarce, thin pages are merged before, and what is retired is

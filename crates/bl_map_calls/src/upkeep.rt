@@ -19,7 +19,7 @@ pub(crate) const LEVELS: u32 = MOST_LEVELS as u32;
 
 /// How often a pass looks at most for what it lacks, before a change, a post or a compression. With its naps so many looks take half a minute:
 /// longer than a thread waits for a processor that it has lost within a process, on a machine with a hundred threads for each.
-pub(crate) const WAITS_FOR_ROOM: u32 = 32_768;
+pub const WAITS_FOR_ROOM: u32 = 32_768;
 
 /// So many times it only lets others run, and as often it naps shortly. All naps behind these are long.
 const WAITS_OF_A_KIND: u32 = 4_096;
@@ -40,7 +40,7 @@ pub enum Followed {
 
 /// What a pass may lack while some of it waits to be released.
 #[derive(Clone, Copy, Debug, PartialEq, Eq)]
-pub(crate) enum Want {
+pub enum Want {
     /// Frames for a change, a post or a compression.
     Frames,
     /// Pages for a split.
@@ -50,7 +50,7 @@ pub(crate) enum Want {
 }
 
 /// Whether the pass lacks what it wants, and some of that waits to be released.
-pub(crate) fn lacks(index: &Index, pass: &Pass, want: Want) -> bool {
+pub fn lacks(index: &Index, pass: &Pass, want: Want) -> bool {
     match want {
         Want::Frames => index.lacks_frames(pass),
         Want::Pages => index.waits_for_pages(),
@@ -104,7 +104,7 @@ pub fn sweep_if_due(index: &Index, pass: &mut Pass)
 
 /// How many top levels a compression may have left that are not needed: all but one, where the top page had too few children to compress,
 /// or has one fewer now.
-pub(crate) fn may_fall(squeezed: Squeezed) -> u32
+pub fn may_fall(squeezed: Squeezed) -> u32
     ensures { result ≡ may_fall squeezed }
 {
     match squeezed {

@@ -5,11 +5,13 @@
 #![tactic(auto)]
 
 mod blank;
+mod first_words;
 mod room;
 mod seen;
 mod sight;
 
 pub use blank::is_all_zeros;
+pub use first_words::FirstWords;
 pub use room::{Room, end_near};
 pub use seen::RoomSeen;
 pub use sight::{OWNERS_A_SWEEP, RING, Sight};

@@ -4,6 +4,7 @@ ghost use Rattle.std.specs.Prelude.{◌<◌, ◌≤◌, ◌^◌};
 ghost use Rattle.bl_layout.specs.Words.{frame_count};
 
 use crate::blank::is_all_zeros;
+use crate::first_words::FirstWords;
 use bl_layout::Layout;
 use std::alloc::{AllocError, Global};
 use std::sync::atomic::{AtomicU64, Ordering};
@@ -64,10 +65,14 @@ pub struct Room {
 
 impl Room {
     /// A store of that layout, of which the first pages have these words. Those with only zeros are free, and so are all others.
-    pub fn new(alloc: Global, layout: Layout, first: &[[u64; 32]]) -> Result<Room, AllocError> {
+    pub fn new<F: FirstWords>(
+        alloc: Global,
+        layout: Layout,
+        first: &F,
+    ) -> Result<Room, AllocError> {
         let (free, blocks) = free_in_blocks(alloc, layout.pages, first)?;
         let passes = layout.passes;
-        let spare = spare_in_chunks(alloc, layout, first.len() as u64)?;
+        let spare = spare_in_chunks(alloc, layout, first.count() as u64)?;
         let words = passes as usize * LINE;
         let mut looks_at = Vec::with_capacity(alloc, words)?;
         for _ in 0..words {
@@ -82,7 +87,7 @@ impl Room {
             last: AtomicU64::new(UNKNOWN),
             least: AtomicU64::new(1),
             blocks,
-            fresh: AtomicU64::new((first.len() as u64).max(u64::from(first_frame(passes)))),
+            fresh: AtomicU64::new((first.count() as u64).max(u64::from(first_frame(passes)))),
             spare,
             ahead: AtomicU64::new(0),
             looks_at,
@@ -405,10 +410,10 @@ pub fn end_near(layout: Layout, frame: u32) -> u32
 }
 
 // How many pages are free, and how many of each block.
-fn free_in_blocks(
+fn free_in_blocks<F: FirstWords>(
     alloc: Global,
     pages: u32,
-    first: &[[u64; 32]],
+    first: &F,
 ) -> Result<(u64, Vec<AtomicU64>), AllocError>
     requires { pages ≤ 2 ^ 28 }
 {
@@ -459,13 +464,11 @@ fn chunk_of(chunk: u32, frames: u32) -> (u32, u32)
 }
 
 // How many of the pages of a range have only zeros.
-fn blanks(first: &[[u64; 32]], from: u32, to: u32) -> u64 {
+fn blanks<F: FirstWords>(first: &F, from: u32, to: u32) -> u64 {
+    let count = first.count();
     let mut blank = 0u64;
     for page in from..to {
-        let is_blank = match first.get(page as usize) {
-            Some(words) => is_all_zeros(words),
-            None => true,
-        };
+        let is_blank = page as usize >= count || is_all_zeros(&first.words_of(page));
         blank = blank.wrapping_add(u64::from(is_blank));
     }
     blank

@@ -9,6 +9,7 @@ use Rattle.std.proofs.lemmas.List.Sorted.{IsPermutation-map}
 use Rattle.bl_model.specs.declared.operation.Entry.{Entry}
 use Rattle.bl_model.specs.declared.operation.Reply.{Reply}
 use Rattle.bl_serve_lines.specs.declared.request.Request.{Request}
+use Rattle.bl_serve_lines.specs.declared.listing.Listing.TheVariants.{ScanFrom}
 use Rattle.bl_serve_lines.specs.declared.listing.Scan.{Scan}
 use Rattle.bl_serve_lines.specs.declared.listing.Until.{Until}
 use Rattle.bl_serve_lines.specs.declared.listing.Until.TheVariants.{Top, Below, DownTo}
@@ -19,7 +20,7 @@ use Rattle.bl_serve_lines.specs.Dealt.{dealt}
 use Rattle.bl_serve_lines.proofs.Dealing.{here, elsewhere}
 use Rattle.bl_serve_lines.proofs.Keys.{from_one, on_key_append}
 use Rattle.bl_serve_worker.specs.Answering.{IsFor}
-use Rattle.bl_serve_worker.specs.Answering.IsFor.{Replies, Sums, Scans, States, Syncs, Refuses}
+use Rattle.bl_serve_worker.specs.Answering.IsFor.{Replies, Sums, Scans, Saves, States, Syncs, Refuses}
 use Rattle.bl_serve_worker.specs.Shares.{Piece}
 use Rattle.bl_serve.specs.Dealing.{AreDealt, IsOn}
 use Rattle.bl_serve.proofs.Hands.{hand_at, split_at}
@@ -67,6 +68,7 @@ apart_of key (Replies entry) off = go (is_on key entry.op) refl
     go false is = grind (arith, is)
 apart_of key (Sums its number es reply adds) off = sums_apart key its number None es reply (not_true (its == key) off) adds
 apart_of key (Scans asked parts are) off = parts_apart key (scan_of asked) parts are
+apart_of key (Saves parts done are) off = parts_apart key (scan_of (ScanFrom 0 None)) parts are
 apart_of key (States all used free room) off = refl
 apart_of key Syncs off = refl
 apart_of key Refuses off = refl

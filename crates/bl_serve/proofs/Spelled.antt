@@ -21,19 +21,19 @@ use Rattle.bl_serve_lines.specs.declared.listing.Until.TheVariants.{Top, Below, 
 use Rattle.bl_serve_lines.specs.declared.listing.Tells.{Tells}
 use Rattle.bl_serve_lines.specs.declared.listing.Tells.TheVariants as tells
 use Rattle.bl_serve_lines.specs.declared.request.Request.{Request}
-use Rattle.bl_serve_lines.specs.declared.request.Request.TheVariants.{Ask, Add, Scan, Stat, Sync}
+use Rattle.bl_serve_lines.specs.declared.request.Request.TheVariants.{Ask, Add, Scan, Save, Stat, Sync}
 use Rattle.bl_model.specs.Map.{Map, MayAnswer, ListsPairs, map_step}
 use Rattle.bl_model.specs.History.{IsLegalFrom, final_map}
 use Rattle.bl_model.specs.Rows.{HasRisingKeys}
 use Rattle.bl_model.proofs.Histories.{legal_append}
-use Rattle.bl_serve_lines.specs.Lines.{Line, IsLine, Adds, Fits, Answer, Replied, Added, Scanned, Stated, Synced, Malformed, entries, answer_text, input_of, output_of}
+use Rattle.bl_serve_lines.specs.Lines.{Line, IsLine, Adds, Fits, Answer, Replied, Added, Scanned, Saved, Stated, Synced, Malformed, entries, answer_text, input_of, output_of}
 use Rattle.bl_serve_lines.specs.Scans.{AreParts, is_before, key_above, key_below, less, limited, place_in, rows_before, scan_of, wants_more}
 use Rattle.bl_serve_lines.specs.Text.{Means, Spells, numbered}
 use Rattle.bl_serve_lines.specs.declared.serving.Sectioning.{Sectioning}
 use Rattle.bl_serve_lines.specs.declared.serving.Sectioning.TheVariants.{BySync, AtMost}
 use Rattle.bl_serve_lines.specs.Served.{Ends, IsShort, HasNoEnd, malformed_of, syncs_of}
 use Rattle.bl_serve_worker.specs.Answering.{IsFor, answers_text}
-use Rattle.bl_serve_worker.specs.Answering.IsFor.{Replies, Sums, Scans, States, Syncs, Refuses}
+use Rattle.bl_serve_worker.specs.Answering.IsFor.{Replies, Sums, Scans, Saves, States, Syncs, Refuses}
 use Rattle.bl_serve_reading.specs.Reading.{IsReadAs, bytes_of, AsksEnd, AskNoEnd, AskEndLast}
 use Rattle.bl_serve_reading.specs.Syncs.{is_sync}
 use Rattle.bl_serve.proofs.Finite.{IsFinite, finite_step, finite_history}
@@ -47,6 +47,7 @@ fits_one : {pages : ℕ × ℕ} {asked : Option Request} {answer : Answer} → I
 fits_one (Replies entry) bytes m = m
 fits_one (Sums key number es reply adds) bytes m = (m, adds)
 fits_one (Scans asked parts are) bytes m = (m, are)
+fits_one (Saves parts done are) bytes m = (m, are)
 fits_one (States all used free room) bytes m = (m, room)
 fits_one Syncs bytes m = m
 fits_one Refuses bytes m = m
@@ -55,6 +56,7 @@ malformed_one : {pages : ℕ × ℕ} {asked : Option Request} {answer : Answer} 
 malformed_one (Replies entry) = refl
 malformed_one (Sums key number es reply adds) = refl
 malformed_one (Scans asked parts are) = refl
+malformed_one (Saves parts done are) = refl
 malformed_one (States all used free room) = refl
 malformed_one Syncs = refl
 malformed_one Refuses = refl
@@ -63,6 +65,7 @@ not_synced : {pages : ℕ × ℕ} {asked : Option Request} {answer : Answer} →
 not_synced (Replies entry) other e = let no : ⊥ = cc in no
 not_synced (Sums key number es reply adds) other e = let no : ⊥ = cc in no
 not_synced (Scans asked parts are) other e = let no : ⊥ = cc in no
+not_synced (Saves parts done are) other e = let no : ⊥ = cc in no
 not_synced (States all used free room) other e = let no : ⊥ = cc in no
 not_synced Syncs other e = other refl
 not_synced Refuses other e = let no : ⊥ = cc in no
@@ -71,6 +74,7 @@ is_synced : {pages : ℕ × ℕ} {asked : Option Request} {answer : Answer} → 
 is_synced (Replies entry) e = let no : ⊥ = cc in absurd no
 is_synced (Sums key number es reply adds) e = let no : ⊥ = cc in absurd no
 is_synced (Scans asked parts are) e = let no : ⊥ = cc in absurd no
+is_synced (Saves parts done are) e = let no : ⊥ = cc in absurd no
 is_synced (States all used free room) e = let no : ⊥ = cc in absurd no
 is_synced Syncs e = refl
 is_synced Refuses e = let no : ⊥ = cc in absurd no
@@ -85,6 +89,7 @@ synced_one : {pages : ℕ × ℕ} {asked : Option Request} {answer : Answer} →
 synced_one (Replies entry) = refl
 synced_one (Sums key number es reply adds) = refl
 synced_one (Scans asked parts are) = refl
+synced_one (Saves parts done are) = refl
 synced_one (States all used free room) = refl
 synced_one Syncs = refl
 synced_one Refuses = refl
@@ -389,6 +394,8 @@ pub lawful : (pages : ℕ × ℕ) → pages.0 ≤ pages.1 → (m : Map) → IsFi
 lawful pages some m f [] texts h = record { answers = []; each = tt; legal = tt }
 lawful pages some m f (a ∷ asked) [] h = absurd h
 lawful pages some m f (None ∷ asked) (text ∷ texts) h = let r = lawful pages some m f asked texts h.1 in record { answers = Malformed ∷ r.answers; each = (Refuses, r.each); legal = r.legal }
+lawful pages some m f (Some Save ∷ asked) (text ∷ texts) h = let p = lawful_listing m f (listing.ScanFrom 0 None) in let r = lawful pages some (final_map m p.parts) (finite_history m p.parts f) asked texts h.1 in
+    record { answers = Saved p.parts false ∷ r.answers; each = (Saves p.parts false p.are, r.each); legal = legal_append m p.parts (flat_map entries r.answers) p.legal r.legal }
 lawful pages some m f (Some Stat ∷ asked) (text ∷ texts) h = let r = lawful pages some m f asked texts h.1 in record { answers = Stated pages.0 0 0 ∷ r.answers; each = (States pages.0 0 0 (omega arith, some, omega arith), r.each); legal = r.legal }
 lawful pages some m f (Some Sync ∷ asked) (text ∷ texts) h = let r = lawful pages some m f asked texts h.1 in record { answers = Synced ∷ r.answers; each = (Syncs, r.each); legal = r.legal }
 lawful pages some m f (Some (Ask op) ∷ asked) (text ∷ texts) h = let one = some_reply m text op h.0.means in let e : Entry = record { pass = 0; op = op; reply = one.0 } in

@@ -7,7 +7,7 @@ use Rattle.bl_claims.specs.Trails.{Trail}
 use Rattle.bl_index.specs.declared.index.Pass.{Pass}
 use Rattle.bl_serve_reading.specs.declared.section_reader.SectionEnd.{SectionEnd}
 use Rattle.bl_serve_worker.specs.Answering.{IsFor}
-use Rattle.bl_serve_worker.specs.Answering.IsFor.{Replies, Sums, Scans, States, Syncs, Refuses}
+use Rattle.bl_serve_worker.specs.Answering.IsFor.{Replies, Sums, Scans, Saves, States, Syncs, Refuses}
 use Rattle.bl_serve_ground.specs.declared.ground.Ground.{Ground}
 use Rattle.bl_serve.specs.Holding.{HoldsSection, ServesSection}
 use Rattle.bl_serve.specs.Sections.{Held}
@@ -18,6 +18,7 @@ module _ (pages sizes : ℕ × ℕ) (low : pages.0 ≤ sizes.0) (high : sizes.1 
   wider_answer (Replies entry) = Replies entry
   wider_answer (Sums key number es reply adds) = Sums key number es reply adds
   wider_answer (Scans asked parts are) = Scans asked parts are
+  wider_answer (Saves parts done are) = Saves parts done are
   wider_answer (States all used free room) = States all used free (let a = room.0 in let b = room.1 in (omega (arith, a, low), omega (arith, b, high), room.2))
   wider_answer Syncs = Syncs
   wider_answer Refuses = Refuses

@@ -269,6 +269,7 @@ fn answer_chunk<'a, 'b, R: Threads + Wait + Sync, G: Gate + Sync, I: Read>(
         wakeup: &wakeup,
         shares: &receiver,
         lines: lines.as_slice(),
+        names: lines.names(),
         deals: deals.as_slice(),
         before,
         last: ahead.is_last,

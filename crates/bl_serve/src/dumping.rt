@@ -25,7 +25,7 @@ use bl_model::Watched;
 use bl_outside::Outside;
 use bl_serve_ground::{Origin, ground_of, open_index, own_index, shut};
 use bl_serve_lines::{Sectioning, ServeFault, Totals};
-use bl_serve_worker::OpenGate;
+use bl_serve_worker::{Gate, OpenGate};
 use std::alloc::{AllocError, Global};
 use std::io::{Read, Write};
 use std::sync::Wait;
@@ -58,20 +58,21 @@ pub fn dump_index<T: Threads + Wait + Sync, R: Read, W: Write>(
         sections: Sectioning::BySync,
         most: 0,
     };
-    match dump_by_plan(rt, alloc, origin, plan, reader, writer) {
+    match dump_by_plan(rt, alloc, origin, plan, reader, writer, &OpenGate) {
         Ok((summary, closed)) => Ok((summary.totals, closed)),
         Err(fault) => Err(fault),
     }
 }
 
 /// The same by a plan, as `serve_by_plan` serves, and what else was counted.
-pub fn dump_by_plan<T: Threads + Wait + Sync, R: Read, O: Outside>(
+pub fn dump_by_plan<T: Threads + Wait + Sync, R: Read, O: Outside, G: Gate + Sync>(
     rt: &T,
     alloc: Global,
     origin: Origin,
     plan: ServePlan,
     reader: &mut Watched<R>,
     outside: &mut O,
+    gate: &G,
 ) -> Result<(Summary, Result<Quiet, AllocError>), ServeFault>
     requires pages { HasPages origin }
     requires passes { MayServe plan }
@@ -88,7 +89,7 @@ pub fn dump_by_plan<T: Threads + Wait + Sync, R: Read, O: Outside>(
     let threads = plan_of(plan);
     let (index, passes) = open_index(alloc, origin, plan.workers + plan.compressors)?;
     let ground = ground_of(index, plan.most);
-    match serve_with(rt, ground, passes, reader, outside, &OpenGate, threads) {
+    match serve_with(rt, ground, passes, reader, outside, gate, threads) {
         Ok((summary, ground, passes)) => Ok((summary, shut(alloc, own_index(ground), passes))),
         Err(fault) => Err(fault),
     }

@@ -25,7 +25,7 @@ mod summary;
 
 pub use bl_outside::Outside;
 pub use bl_serve_ground::Origin;
-pub use bl_serve_lines::{Sectioning, ServeFault, Totals};
+pub use bl_serve_lines::{Sectioning, ServeFault, Totals, Wrong};
 pub use bl_serve_worker::{Gate, OpenGate, follow_hint};
 pub use dumping::{dump_by_plan, dump_index};
 pub use serving::serve;

@@ -18,7 +18,7 @@ use bl_model::Watched;
 use bl_outside::Outside;
 use bl_serve_ground::{Origin, ground_of, open_index};
 use bl_serve_lines::{Sectioning, ServeFault, Totals};
-use bl_serve_worker::OpenGate;
+use bl_serve_worker::{Gate, OpenGate};
 use std::alloc::Global;
 use std::io::{Read, Write};
 use std::sync::Wait;
@@ -28,7 +28,7 @@ use std::thread::Threads;
 /// about as long as they do.
 const ALONE: usize = 1_024;
 
-/// The workers and the sections of that plan, where no gate holds a worker.
+/// The workers and the sections of that plan, where the gate holds no worker.
 pub fn plan_of(plan: ServePlan) -> ThreadPlan
     ensures { result.sections ≡ plan.sections }
 {
@@ -65,7 +65,7 @@ pub fn serve_index<T: Threads + Wait + Sync, R: Read, W: Write>(
         sections: Sectioning::BySync,
         most: 0,
     };
-    match serve_by_plan(rt, alloc, origin, plan, reader, writer) {
+    match serve_by_plan(rt, alloc, origin, plan, reader, writer, &OpenGate) {
         Ok(summary) => Ok(summary.totals),
         Err(fault) => Err(fault),
     }
@@ -74,14 +74,15 @@ pub fn serve_index<T: Threads + Wait + Sync, R: Read, W: Write>(
 /// The same by a plan, and what else was counted. Where each line is a section, its reply is written and flushed before the next line
 /// is read, and the history is in the order of the lines. Where the plan has more pages than the index begins with, it grows by two between two
 /// chunks of lines, before they lack room: what is served is that of one map, and only `stat` tells of it. Where memory for that is refused it
-/// keeps the pages that it has.
-pub fn serve_by_plan<T: Threads + Wait + Sync, R: Read, O: Outside>(
+/// keeps the pages that it has. What is saved goes through the gate.
+pub fn serve_by_plan<T: Threads + Wait + Sync, R: Read, O: Outside, G: Gate + Sync>(
     rt: &T,
     alloc: Global,
     origin: Origin,
     plan: ServePlan,
     reader: &mut Watched<R>,
     outside: &mut O,
+    gate: &G,
 ) -> Result<Summary, ServeFault>
     requires pages { HasPages origin }
     requires passes { MayServe plan }
@@ -98,7 +99,7 @@ pub fn serve_by_plan<T: Threads + Wait + Sync, R: Read, O: Outside>(
     let threads = plan_of(plan);
     let (index, passes) = open_index(alloc, origin, plan.workers + plan.compressors)?;
     let ground = ground_of(index, plan.most);
-    match serve_with(rt, ground, passes, reader, outside, &OpenGate, threads) {
+    match serve_with(rt, ground, passes, reader, outside, gate, threads) {
         Ok((summary, _ground, _passes)) => Ok(summary),
         Err(fault) => Err(fault),
     }

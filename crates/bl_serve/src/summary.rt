@@ -2,15 +2,15 @@
 
 ghost use Rattle.std.specs.Prelude.{◌≡◌};
 
-use bl_serve_lines::Totals;
-use bl_serve_reading::{ParsedLines, SectionEnd};
+use bl_serve_lines::{Totals, Wrong};
+use bl_serve_reading::{Malformed, ParsedLines, SectionEnd};
 use bl_serve_worker::Slot;
 
 /// What whoever runs a server is told beside its totals. These are tested, and in no clause.
 #[derive(Clone, Copy, Debug, PartialEq, Eq)]
 pub struct Remarks {
-    /// The number of the first malformed line: the first line of the input has 1.
-    pub first_malformed: Option<u64>,
+    /// The number of the first malformed line, where the first line of the input has 1, and what is wrong with it.
+    pub first_malformed: Option<(u64, Wrong)>,
     /// How many requests found no room.
     pub norooms: u64,
     /// The most bytes of replies that were kept until a section ended.
@@ -37,12 +37,16 @@ impl Remarks {
     /// Looks for the first malformed one of lines with that end that stand behind so many others. Bytes behind the last LF are one.
     pub(crate) fn look_at(&mut self, lines: &ParsedLines, end: SectionEnd, before: u64) {
         let last = if end == SectionEnd::Rest {
-            Some(lines.len())
+            Some(Malformed {
+                place: lines.len(),
+                wrong: Wrong::Open,
+            })
         } else {
             None
         };
-        if let (None, Some(place)) = (self.first_malformed, lines.first_malformed().or(last)) {
-            self.first_malformed = Some(before.saturating_add(place as u64).saturating_add(1));
+        if let (None, Some(line)) = (self.first_malformed, lines.first_malformed().or(last)) {
+            let number = before.saturating_add(line.place as u64).saturating_add(1);
+            self.first_malformed = Some((number, line.wrong));
         }
     }
 

@@ -29,9 +29,9 @@ fn open_image(alloc: Global, quiet: Quiet, passes: u32) -> Result<(Index, Vec<Pa
     requires { (1 ≤ passes) × (passes ≤ 64) }
     ensures { IfOk result (λ t. IsReopened quiet.image.pages.items passes t.0 t.1.items) }
 {
-    match Index::open_image(alloc, quiet, passes) {
+    match Index::begin_with(alloc, quiet, passes) {
         Ok(opened) => Ok(opened),
-        Err((_, OpenFault::Memory)) => Err(AllocError),
+        Err(OpenFault::Memory) => Err(AllocError),
         Err(_) => unreachable!(),
     }
 }

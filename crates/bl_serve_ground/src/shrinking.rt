@@ -77,9 +77,12 @@ pub(crate) fn narrowed(
         return Ok((index, passes, spare));
     }
     let (index, passes) = shrunk(alloc, index, passes, size)?;
+    let now = index.patience();
     let spare = Spare {
         free: u64::from(index.room().free_pages),
-        is_fixed: index.patience() > size,
+        // One that has shrunk may grow again, even where memory for a larger one was refused.
+        is_refused: spare.is_refused && now >= pages,
+        is_fixed: now > size,
         ..spare
     };
     Ok((index, passes, spare))

@@ -9,7 +9,7 @@ pub struct Spare {
     pub free: u64,
     /// So many were to be free for insertions, lately.
     pub wanted: u64,
-    /// Memory for a larger index was refused, so it is not asked for again.
+    /// Memory for a larger index was refused, so it is not asked for again before the index has shrunk.
     pub is_refused: bool,
     /// Rows were not laid out anew in fewer pages, so that is not tried again.
     pub is_fixed: bool,

@@ -1,5 +1,5 @@
 -- Worked examples of the definitions.
-use Rattle.std.proofs.Common.{◌≡◌, ℕ, List, [], ◌∷◌, codes, decimal, get_or, refl, ap, ◌∙◌, lit<, lit≤, Option, Some, None, arith}
+use Rattle.std.proofs.Common.{◌≡◌, ℕ, ◌<◌, true, false, List, [], ◌∷◌, codes, decimal, get_or, refl, ap, ◌∙◌, lit<, lit≤, Option, Some, None, arith}
 use Rattle.std.proofs.lemmas.Fmt.{decimal_digit}
 use Rattle.std.proofs.lemmas.List.Elements.{All-nil, All-cons}
 use Rattle.bl_model.specs.declared.operation.Op.TheVariants.{Find, Insert, Change, Part, PartDown}
@@ -10,10 +10,10 @@ use Rattle.bl_model.specs.Map.{empty}
 use Rattle.bl_model.specs.History.{IsLegalFrom}
 use Rattle.bl_serve_lines.specs.declared.listing.Listing.{Listing}
 use Rattle.bl_serve_lines.specs.declared.listing.Listing.TheVariants as listing
-use Rattle.bl_serve_lines.specs.declared.request.Request.TheVariants.{Ask, Scan, Sync}
+use Rattle.bl_serve_lines.specs.declared.request.Request.TheVariants.{Ask, Scan, Save, Sync}
 use Rattle.bl_serve_lines.specs.Text.{Spells}
 use Rattle.bl_serve_lines.specs.Scans.{AreParts, scan_of}
-use Rattle.bl_serve_lines.specs.Lines.{Line, Adds, Fits, Replied, Added, Scanned, Stated, Synced, answer_text, input_of, output_of, rest_text, text_of}
+use Rattle.bl_serve_lines.specs.Lines.{Line, Adds, Fits, Replied, Added, Scanned, Saved, Stated, Synced, answer_text, input_of, output_of, rest_text, text_of}
 use Rattle.bl_serve_lines.specs.Served.{Interleaves, on_key}
 use Rattle.bl_serve_lines.specs.Served.Interleaves.{Done, Takes}
 
@@ -76,6 +76,20 @@ change_back spells =
 
 sync_line : Spells (codes "sync") Sync
 sync_line = refl
+
+-- a line that names a file
+save_line : Spells (codes "save it") Save
+save_line = (codes "it", record { some = lit< tt; short = lit≤ tt; plain = All-cons (λ b. 32 < b) 105 (116 ∷ []) (lit< tt) (All-cons (λ b. 32 < b) 116 [] (lit< tt) (All-nil (λ b. 32 < b))) }, refl)
+
+-- two rows of a leaf, which is the whole map, went into a file; or did not
+abbrev all_rows : Entry
+all_rows = record { pass = 0; op = Part 0; reply = Rows (record { items = (1, 5) ∷ (3, 4) ∷ [] }) End }
+
+saved_written : answer_text (Saved (all_rows ∷ []) true) ≡ codes "saved 2"
+saved_written = simp two
+
+unsaved_written : answer_text (Saved (all_rows ∷ []) false) ≡ codes "unsaved"
+unsaved_written = refl
 
 -- of four pages, one may be retired, and not one more than there are
 stat_fits : Fits (4, 4) (codes "stat") (Stated 4 2 1)

@@ -8,7 +8,7 @@ use Rattle.bl_model.specs.declared.operation.Entry.{Entry}
 use Rattle.bl_model.specs.Map.{Map}
 use Rattle.bl_serve_lines.specs.declared.serving.Sectioning.TheVariants.{BySync, AtMost}
 use Rattle.bl_serve_lines.specs.declared.serving.Totals.{Totals}
-use Rattle.bl_serve_lines.specs.Lines.{Answer, Line, Replied, Added, Scanned, Stated, Synced, Malformed, entries}
+use Rattle.bl_serve_lines.specs.Lines.{Answer, Line, Replied, Added, Scanned, Saved, Stated, Synced, Malformed, entries}
 use Rattle.bl_serve_lines.specs.Served.{Interleaves, Section, HasNoEnd, IsFinished, Served, lines_of, history_of, syncs_of, whole_history, entries_in, LinesAloneKeepOrder}
 use Rattle.bl_serve_lines.specs.Served.Interleaves.{Done, Takes}
 
@@ -58,6 +58,7 @@ not_one : (answer : Answer) → ¬ (answer ≡ Synced) → syncs_of answer ≡ 0
 not_one (Replied entry) other = refl
 not_one (Added key number es reply) other = refl
 not_one (Scanned asked parts) other = refl
+not_one (Saved parts done) other = refl
 not_one (Stated all used free) other = refl
 not_one Synced other = absurd (other refl)
 not_one Malformed other = refl

@@ -5,7 +5,7 @@ use Rattle.std.specs.Prelude.{Option, Some, None, IsNone}
 use Rattle.bl_model.specs.declared.operation.Op.TheVariants.{Find, Insert, Put, Delete, Change, Part, PartDown}
 use Rattle.bl_serve_lines.specs.declared.listing.Listing.TheVariants as listing
 use Rattle.bl_serve_lines.specs.declared.request.Request.{Request}
-use Rattle.bl_serve_lines.specs.declared.request.Request.TheVariants.{Ask, Add, Scan, Stat, Sync}
+use Rattle.bl_serve_lines.specs.declared.request.Request.TheVariants.{Ask, Add, Scan, Save, Stat, Sync}
 use Rattle.bl_serve_lines.specs.Text.{IsLimit, limit_text, Spells, IsMalformed, Means}
 
 short_number : (n : ℕ) → n < 2 ^ 64 → length (decimal n) ≤ 20
@@ -60,6 +60,7 @@ short_request line (Scan listing.Last) is = let same : length line ≡ 4 = ap le
 short_request line (Scan (listing.Next k)) (small, is) = let a = one_number line (codes "next ") k small is in let w : length (codes "next ") ≡ 5 = refl in omega (arith, a, w)
 short_request line (Scan (listing.Previous k)) (small, is) = let a = one_number line (codes "previous ") k small is in let w : length (codes "previous ") ≡ 9 = refl in omega (arith, a, w)
 short_request line (Scan (listing.Count l h)) (small, small_h, is) = let a = two_numbers line (codes "count ") l h small small_h is in let w : length (codes "count ") ≡ 6 = refl in omega (arith, a, w)
+short_request line Save (name, is_name, is) = let few = is_name.short in let e = ap length is in let both = length-append (codes "save ") name in let w : length (codes "save ") ≡ 5 = refl in omega (arith, few, e, both, w)
 short_request line Stat is = let same : length line ≡ 4 = ap length is in omega (arith, same)
 short_request line Sync is = let same : length line ≡ 4 = ap length is in omega (arith, same)
 

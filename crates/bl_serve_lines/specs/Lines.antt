@@ -1,5 +1,5 @@
 -- Lines of the input, their answers, and the lines of the output.
-use Rattle.std.specs.Prelude.{◌≡◌, ◌≢◌, ℕ, suc, ◌+◌, ◌%◌, ◌^◌, ◌≤◌, Option, Some, None, List, [], ◌∷◌, ◌++◌, All, length, flat_map, codes, MatchOption}
+use Rattle.std.specs.Prelude.{◌≡◌, ◌≢◌, ℕ, suc, ◌+◌, ◌%◌, ◌^◌, ◌≤◌, Bool, true, false, Option, Some, None, List, [], ◌∷◌, ◌++◌, All, length, flat_map, codes, decimal, MatchOption}
 use Rattle.bl_model.specs.declared.operation.Op.{Op}
 use Rattle.bl_model.specs.declared.operation.Op.TheVariants.{Find, Change}
 use Rattle.bl_model.specs.declared.operation.Reply.{Reply}
@@ -7,17 +7,19 @@ use Rattle.bl_model.specs.declared.operation.Reply.TheVariants.{Found, Replaced,
 use Rattle.bl_model.specs.Parts.{rows_of}
 use Rattle.bl_model.specs.declared.operation.Entry.{Entry}
 use Rattle.bl_serve_lines.specs.declared.listing.Listing.{Listing}
-use Rattle.bl_serve_lines.specs.declared.request.Request.TheVariants.{Ask, Add, Scan, Stat, Sync}
+use Rattle.bl_serve_lines.specs.declared.listing.Listing.TheVariants.{ScanFrom}
+use Rattle.bl_serve_lines.specs.declared.request.Request.TheVariants.{Ask, Add, Scan, Save, Stat, Sync}
 use Rattle.bl_serve_lines.specs.Scans.{AreParts, rows_before, scan_of, told_text}
 use Rattle.bl_serve_lines.specs.Text.{Spells, IsMalformed, reply_text, room_text, numbered}
 
 -- what a line is answered: an operation's entry; an addition's key, its number, its entries in order and its reply; the rows that were asked
--- for, and the scan's parts in order; how many pages the index has, how many are in use, and how many may be taken; that a section ended; that
+-- for, and the scan's parts in order; the parts of a scan of all rows, and whether these went into a file; how many pages the index has, how many are in use, and how many may be taken; that a section ended; that
 -- it spells no request
 pub data Answer : Type 0 where
   Replied : Entry → Answer
   Added : ℕ → ℕ → List Entry → Reply → Answer
   Scanned : Listing → List Entry → Answer
+  Saved : List Entry → Bool → Answer
   Stated : ℕ → ℕ → ℕ → Answer
   Synced : Answer
   Malformed : Answer
@@ -62,6 +64,7 @@ abbrev pub Fits : ℕ × ℕ → List ℕ → Answer → Type 0
 Fits pages bytes (Replied entry) = Spells bytes (Ask entry.op)
 Fits pages bytes (Added key number es reply) = Spells bytes (Add key number) × Adds key number None es reply
 Fits pages bytes (Scanned asked parts) = Spells bytes (Scan asked) × AreParts (scan_of asked) parts
+Fits pages bytes (Saved parts done) = Spells bytes Save × AreParts (scan_of (ScanFrom 0 None)) parts
 Fits pages bytes (Stated all used free) = Spells bytes Stat × IsRoom pages all used free
 Fits pages bytes Synced = Spells bytes Sync
 Fits pages bytes Malformed = IsMalformed bytes
@@ -75,6 +78,7 @@ abbrev pub entries : Answer → List Entry
 entries (Replied entry) = entry ∷ []
 entries (Added key number es reply) = es
 entries (Scanned asked parts) = parts
+entries (Saved parts done) = parts
 entries (Stated all used free) = []
 entries Synced = []
 entries Malformed = []
@@ -83,11 +87,17 @@ entries Malformed = []
 abbrev pub rows_in : List Entry → List (ℕ × ℕ)
 rows_in parts = flat_map (λ entry. rows_of entry.reply) parts
 
+-- what is printed of a save: how many rows the parts have, if these went into its file
+abbrev pub saved_text : Bool → List Entry → List ℕ
+saved_text true parts = codes "saved " ++ decimal (length (rows_in parts))
+saved_text false parts = codes "unsaved"
+
 -- what is printed behind a line's number; of a scan, what it tells of those rows of its parts that are before its end
 abbrev pub answer_text : Answer → List ℕ
 answer_text (Replied entry) = reply_text entry.reply
 answer_text (Added key number es reply) = reply_text reply
 answer_text (Scanned asked parts) = told_text (scan_of asked).tells (rows_before (scan_of asked).until (rows_in parts))
+answer_text (Saved parts done) = saved_text done parts
 answer_text (Stated all used free) = room_text all used free
 answer_text Synced = codes "synced"
 answer_text Malformed = codes "malformed"

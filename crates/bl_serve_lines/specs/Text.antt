@@ -1,5 +1,5 @@
 -- The text of requests and of replies.
-use Rattle.std.specs.Prelude.{◌≡◌, ℕ, ◌<◌, ◌^◌, List, [], ◌∷◌, ◌++◌, flat_map, codes, decimal, None, Some, Option, IfSome}
+use Rattle.std.specs.Prelude.{◌≡◌, ℕ, ◌<◌, ◌≤◌, ◌^◌, List, [], ◌∷◌, ◌++◌, All, length, flat_map, codes, decimal, None, Some, Option, IfSome}
 use Rattle.bl_model.specs.declared.operation.Op.TheVariants.{Find, Insert, Put, Delete, Change, Part, PartDown}
 use Rattle.bl_model.specs.declared.operation.Next.{Next}
 use Rattle.bl_model.specs.declared.operation.Next.TheVariants.{More, End}
@@ -7,7 +7,7 @@ use Rattle.bl_model.specs.declared.operation.Reply.{Reply}
 use Rattle.bl_model.specs.declared.operation.Reply.TheVariants.{Found, Absent, Inserted, Present, Replaced, Deleted, Changed, Differs, Rows, NoRoom}
 use Rattle.bl_serve_lines.specs.declared.listing.Listing.TheVariants as listing
 use Rattle.bl_serve_lines.specs.declared.request.Request.{Request}
-use Rattle.bl_serve_lines.specs.declared.request.Request.TheVariants.{Ask, Add, Scan, Stat, Sync}
+use Rattle.bl_serve_lines.specs.declared.request.Request.TheVariants.{Ask, Add, Scan, Save, Stat, Sync}
 use Rattle.bl_serve_lines.specs.declared.print.Response.{Response}
 use Rattle.bl_serve_lines.specs.declared.print.Response.TheVariants.{Replied, Stated, Synced, Malformed}
 
@@ -19,6 +19,12 @@ limit_text (Some most) = codes " limit " ++ decimal most
 -- a limit has 32 bits
 abbrev pub IsLimit : Option ℕ → Type 0
 IsLimit limit = IfSome limit (λ most. most < 2 ^ 32)
+
+-- what may name a file in a line: 1 to 64 bytes, none of which is a space or below it
+pub record IsFileName (name : List ℕ) : Type 0 where
+  pub some : 0 < length name
+  pub short : length name ≤ 64
+  pub plain : All (λ b. 32 < b) name
 
 -- the line is a spelling of the request, whose numbers have 64 bits; no line asks for one part alone
 abbrev pub Spells : List ℕ → Request → Type 0
@@ -42,6 +48,7 @@ Spells line (Scan listing.Last) = line ≡ codes "last"
 Spells line (Scan (listing.Next key)) = (key < 2 ^ 64) × (line ≡ codes "next " ++ decimal key)
 Spells line (Scan (listing.Previous key)) = (key < 2 ^ 64) × (line ≡ codes "previous " ++ decimal key)
 Spells line (Scan (listing.Count low high)) = (low < 2 ^ 64) × (high < 2 ^ 64) × (line ≡ codes "count " ++ decimal low ++ codes " " ++ decimal high)
+Spells line Save = (name : List ℕ) × IsFileName name × (line ≡ codes "save " ++ name)
 Spells line Stat = line ≡ codes "stat"
 Spells line Sync = line ≡ codes "sync"
 

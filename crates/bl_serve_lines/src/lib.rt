@@ -13,6 +13,8 @@ pub mod print;
 pub mod request;
 pub mod serving;
 pub mod source;
+mod wrong;
 
 pub use options::ServeOptions;
 pub use serving::{Sectioning, ServeFault, Totals, lines_alone_keep_order};
+pub use wrong::{Wrong, wrong_in};

@@ -26,7 +26,7 @@ pub fn number(text: &[u8]) -> Option<u64>
 }
 
 /// Where the first space stands, or the text's length where there is none.
-fn first_space(text: &[u8]) -> usize
+pub(crate) fn first_space(text: &[u8]) -> usize
     ensures within { result ≤ length text.now }
     ensures before { (k : ℕ) → k < result → slice_index text.now k ≢ 32 }
     ensures found { result < length text.now → slice_index text.now result ≡ 32 }

@@ -1,7 +1,7 @@
 //! The request that a line spells.
 
-ghost use Rattle.std.specs.Prelude.{◌≡◌, ◌≢◌, ℕ, ◌<◌, List, ◌++◌, length, codes, IsNone, IfSome, IfNone, MatchOption};
-ghost use Rattle.bl_serve_lines.specs.Text.{Means, Spells};
+ghost use Rattle.std.specs.Prelude.{◌≡◌, ◌≢◌, ◌↔◌, ℕ, ◌<◌, IsTrue, List, ◌++◌, length, codes, IsNone, IfSome, IfNone, MatchOption};
+ghost use Rattle.bl_serve_lines.specs.Text.{IsFileName, Means, Spells};
 
 use crate::listing::Listing;
 use crate::number::{number, number_and_limit, three_numbers, two_numbers, two_numbers_and_limit};
@@ -19,11 +19,16 @@ pub enum Request {
     Add(u64, u64),
     /// Rows, or how many there are.
     Scan(Listing),
+    /// All rows into a file, which the line names.
+    Save,
     /// How much room there is.
     Stat,
     /// The end of a section.
     Sync,
 }
+
+/// The most bytes that the name of a file may have in a line.
+const NAME_LIMIT: usize = 64;
 
 /// What stands behind the word, if the line begins with it.
 pub fn after<'a>(line: &'a [u8], word: &[u8]) -> Option<&'a [u8]>
@@ -123,6 +128,23 @@ fn rows(line: &[u8]) -> Option<Listing>
     }
 }
 
+/// Whether a file may be named so in a line: none of its bytes is a space or below it, so that a CR before the LF is no part of a name.
+pub(crate) fn is_file_name(name: &[u8]) -> bool
+    ensures { IsTrue result ↔ IsFileName name.now }
+{
+    !name.is_empty() && name.len() <= NAME_LIMIT && name.iter().all(|byte| *byte > b' ')
+}
+
+/// The name of the file that a line of a save names, of which these are the first bytes.
+pub fn file_name(line: &[u8]) -> Option<&[u8]>
+    ensures { MatchOption result (¬ Spells line.now Request.Save) (λ name. IsFileName name.now × (line.now ≡ codes "save " ++ name.now)) }
+{
+    match line {
+        [b's', b'a', b'v', b'e', b' ', name @ ..] if is_file_name(name) => Some(name),
+        _ => None,
+    }
+}
+
 /// The request that the line spells, if it is no operation and asks for no rows.
 fn other(line: &[u8]) -> Option<Request>
     requires no_operation { (op : Op) → ¬ Spells line.now (Request.Ask op) }
@@ -134,6 +156,7 @@ fn other(line: &[u8]) -> Option<Request>
             let (key, added) = two_numbers(rest)?;
             Some(Request::Add(key, added))
         }
+        [b's', b'a', b'v', b'e', b' ', ..] => file_name(line).map(|_| Request::Save),
         [b's', b't', b'a', b't'] => Some(Request::Stat),
         [b's', b'y', b'n', b'c'] => Some(Request::Sync),
         _ => None,

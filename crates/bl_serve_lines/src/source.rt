@@ -55,7 +55,7 @@ impl Model for Source {
 }
 
 /// Puts the bytes behind the line, as far as there is room.
-fn keep(line: &mut ArrayVec<u8, KEPT>, piece: &[u8])
+pub fn keep(line: &mut ArrayVec<u8, KEPT>, piece: &[u8])
     ensures { line.new.items ≡ take KEPT (line.old.items ++ piece.now) }
 {
     let kept = piece.len().min(line.remaining_capacity());

@@ -8,5 +8,5 @@
 mod parsed_lines;
 mod section_reader;
 
-pub use parsed_lines::ParsedLines;
+pub use parsed_lines::{Malformed, Named, ParsedLines};
 pub use section_reader::{ReadAhead, SectionEnd, read_on, read_section};

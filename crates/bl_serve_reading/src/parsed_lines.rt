@@ -3,10 +3,30 @@
 ghost use Rattle.std.specs.Prelude.{◌≡◌, List, [], ◌∷◌, ◌++◌, Option, length, is_none, count_by, OnOk};
 ghost use Rattle.bl_serve_reading.specs.Syncs.{is_sync};
 
+use arrayvec::ArrayVec;
 use bl_model::Op;
-use bl_serve_lines::request::Request;
+use bl_serve_lines::request::{Request, file_name};
+use bl_serve_lines::source::{KEPT, keep};
+use bl_serve_lines::{Wrong, wrong_in};
 use std::alloc::{AllocError, Global};
 use std::marker::Model;
+
+/// A malformed line.
+#[derive(Clone, Copy, Debug, PartialEq, Eq)]
+pub struct Malformed {
+    /// How many lines stand before it.
+    pub place: usize,
+    pub wrong: Wrong,
+}
+
+/// A line that names a file.
+#[derive(Debug, PartialEq, Eq, Drop)]
+pub struct Named {
+    /// How many lines stand before it.
+    pub place: usize,
+    /// The file's name, byte by byte.
+    pub name: ArrayVec<u8, KEPT>,
+}
 
 /// What lines ask for, in their order; None stands for a malformed one. Whoever reads them counts them too: else the thread that does
 /// so would go over all of them once more while no other works.
@@ -14,7 +34,8 @@ use std::marker::Model;
 pub struct ParsedLines {
     requests: Vec<Option<Request>>,
     malformed: usize,
-    first_malformed: Option<usize>,
+    first_malformed: Option<Malformed>,
+    names: Vec<Named>,
     syncs: usize,
     operations: usize,
     deletions: usize,
@@ -36,6 +57,21 @@ impl Model for ParsedLines {
         × (lines.syncs ≡ count_by is_sync lines.requests.items) };
 }
 
+/// A malformed line behind so many others.
+fn malformed_at(place: usize, line: &[u8]) -> Malformed {
+    Malformed {
+        place,
+        wrong: wrong_in(line),
+    }
+}
+
+/// A line of a save behind so many others.
+fn named_at(place: usize, line: &[u8]) -> Option<Named> {
+    let mut name = ArrayVec::new();
+    keep(&mut name, file_name(line)?);
+    Some(Named { place, name })
+}
+
 impl ParsedLines {
     /// No lines.
     pub fn new(alloc: Global) -> ParsedLines
@@ -45,6 +81,7 @@ impl ParsedLines {
             requests: Vec::new(alloc),
             malformed: 0,
             first_malformed: None,
+            names: Vec::new(alloc),
             syncs: 0,
             operations: 0,
             deletions: 0,
@@ -52,18 +89,23 @@ impl ParsedLines {
         }
     }
 
-    /// Puts a line behind the others.
-    pub fn push(&mut self, request: Option<Request>) -> Result<(), AllocError>
+    /// Puts a line behind the others. Of a malformed one and of a save these are its bytes before the LF, as far as they are kept; of others
+    /// they are not wanted.
+    pub fn push(&mut self, request: Option<Request>, line: &[u8]) -> Result<(), AllocError>
         ensures { OnOk result (self.new ≡ self.old ++ request ∷ []) }
     {
         let place = self.requests.len();
         self.requests.push(request)?;
         match request {
             None => {
-                self.first_malformed = self.first_malformed.or(Some(place));
+                self.first_malformed = self.first_malformed.or(Some(malformed_at(place, line)));
                 self.malformed += 1;
             }
             Some(Request::Sync) => self.syncs += 1,
+            Some(Request::Save) => {
+                self.operations = self.operations.saturating_add(1);
+                self.names.extend(named_at(place, line))?;
+            }
             Some(Request::Ask(Op::Delete(_))) => {
                 self.operations = self.operations.saturating_add(1);
                 self.deletions = self.deletions.saturating_add(1);
@@ -84,6 +126,7 @@ impl ParsedLines {
         self.requests.clear();
         self.malformed = 0;
         self.first_malformed = None;
+        self.names.clear();
         self.syncs = 0;
         self.operations = 0;
         self.deletions = 0;
@@ -111,13 +154,14 @@ impl ParsedLines {
         self.malformed
     }
 
-    /// The place of the first one of these, from 0. It is tested, and in no clause.
-    pub fn first_malformed(&self) -> Option<usize> {
-        let ParsedLines {
-            first_malformed,
-            ..
-        } = self;
-        *first_malformed
+    /// The first one of these. It is tested, and in no clause.
+    pub fn first_malformed(&self) -> Option<Malformed> {
+        self.first_malformed
+    }
+
+    /// The lines that name a file, in their order. They are tested, and in no clause.
+    pub fn names(&self) -> &[Named] {
+        self.names.as_slice()
     }
 
     /// How many of them are a sync.

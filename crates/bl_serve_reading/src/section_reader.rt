@@ -9,7 +9,7 @@ use crate::parsed_lines::ParsedLines;
 use arrayvec::ArrayVec;
 use bl_model::{Failed, Watched};
 use bl_serve_lines::request::{Request, parse};
-use bl_serve_lines::source::{Cut, KEPT, Source};
+use bl_serve_lines::source::{Cut, KEPT, Source, keep};
 use bl_serve_lines::{Sectioning, ServeFault};
 use std::alloc::{AllocError, Global};
 use std::io::Read;
@@ -53,7 +53,12 @@ enum Reading {
     End,
 }
 
-/// Reads the next line.
+/// Whether the bytes of a line are wanted behind what it asks for.
+fn is_remembered(request: Option<Request>) -> bool {
+    matches!(request, None | Some(Request::Save))
+}
+
+/// Reads the next line. Where its bytes are wanted, they are put into `line`.
 fn read_line<R: Read>(
     source: &mut Source,
     reader: &mut Watched<R>,
@@ -66,6 +71,10 @@ fn read_line<R: Read>(
 {
     if let Some(front) = source.front() {
         let request = parse(front);
+        if is_remembered(request) {
+            line.clear();
+            keep(line, front);
+        }
         let taken = front.len() + 1;
         source.pass_over(taken);
         return Ok(Reading::Line(request));
@@ -115,7 +124,7 @@ pub fn read_section<R: Read>(
     for _taken in 0..most {
         match read_line(source, reader, &mut line) {
             Ok(Reading::Line(request)) => {
-                lines.push(request)?;
+                lines.push(request, line.as_slice())?;
                 let ended = ends_section(sections, lines.len() as u64, request);
                 if ended {
                     return Ok(SectionEnd::ByLine);

@@ -99,7 +99,7 @@ pub asked_as : (first : List (Option Page)) (pages pass n : ℕ) (asked : Option
 asked_as first pages pass n asked request op reply before after old new is ask w written = subst (λ (z : Option Request). AnswersLine first pages pass n z before after old new) (sym (is ∙ ap Some ask)) (asked_line first pages pass n op reply before after old new w written)
 
 -- the number, a space, what stands behind it, and an LF
-line_of : (before number text : List ℕ) → ((before ++ number) ++ (codes " " ++ text)) ++ 10 ∷ [] ≡ before ++ (number ++ codes " " ++ text ++ 10 ∷ [])
+pub line_of : (before number text : List ℕ) → ((before ++ number) ++ (codes " " ++ text)) ++ 10 ∷ [] ≡ before ++ (number ++ codes " " ++ text ++ 10 ∷ [])
 line_of before number text = append_assoc (before ++ number) (32 ∷ text) (10 ∷ []) ∙ (append_assoc before number ((32 ∷ text) ++ 10 ∷ [])
     ∙ ap (λ (t : List ℕ). before ++ t) (sym (append_assoc (number ++ codes " ") text (10 ∷ []) ∙ append_assoc number (codes " ") (text ++ 10 ∷ []))))
 

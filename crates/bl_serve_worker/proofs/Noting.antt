@@ -10,10 +10,11 @@ use Rattle.bl_model.specs.Writes.{IsRead}
 use Rattle.bl_changes.specs.declared.changes.Changes.{Changes}
 use Rattle.bl_changes.specs.Changes.{came_of, went_of, all_came, all_went}
 use Rattle.bl_serve_lines.specs.declared.request.Request.{Request}
-use Rattle.bl_serve_lines.specs.declared.request.Request.TheVariants.{Ask, Add, Scan, Stat, Sync}
+use Rattle.bl_serve_lines.specs.declared.request.Request.TheVariants.{Ask, Add, Scan, Save, Stat, Sync}
 use Rattle.bl_serve_lines.specs.declared.listing.Until.{Until}
 use Rattle.bl_serve_lines.specs.declared.listing.Until.TheVariants.{Top, Below, DownTo}
 use Rattle.bl_serve_lines.specs.declared.listing.Scan as listing
+use Rattle.bl_serve_lines.specs.declared.listing.Listing.TheVariants.{ScanFrom}
 use Rattle.bl_serve_lines.specs.Lines.{Answer, entries}
 use Rattle.bl_serve_lines.specs.Scans.{AreParts, behind, part_of, scan_of}
 use Rattle.bl_claims.specs.Trails.{Trail}
@@ -22,7 +23,7 @@ use Rattle.bl_map.specs.declared.handle.Handle.{Handle}
 use Rattle.bl_map.specs.Handles.{IsSameHandle, HasCalled, HasKeptUp, number_of_seat, seen_by}
 use Rattle.bl_map.proofs.Same.{kept_as}
 use Rattle.bl_serve_worker.specs.declared.aside.Aside.{Aside}
-use Rattle.bl_serve_worker.specs.Answering.IsFor.{Replies, Sums, Scans, States, Syncs, Refuses}
+use Rattle.bl_serve_worker.specs.Answering.IsFor.{Replies, Sums, Scans, Saves, States, Syncs, Refuses}
 use Rattle.bl_serve_worker.specs.Answering.{IsFor, HasAnswered}
 use Rattle.bl_serve_worker.specs.Noting.{HasNoted, NotesWrite, Notes}
 
@@ -116,6 +117,7 @@ abbrev pub IsQuiet : Option Request → Type 0
 IsQuiet (Some (Ask op)) = IsRead op
 IsQuiet (Some (Add key number)) = ⊥
 IsQuiet (Some (Scan asked)) = Unit {0}
+IsQuiet (Some Save) = Unit {0}
 IsQuiet (Some Stat) = Unit {0}
 IsQuiet (Some Sync) = Unit {0}
 IsQuiet None = Unit {0}
@@ -124,6 +126,7 @@ answer_none : {pages : ℕ × ℕ} {asked : Option Request} {answer : Answer} �
 answer_none (Replies entry) quiet = one_none entry quiet
 answer_none (Sums key number es reply adds) quiet = absurd quiet
 answer_none (Scans asked parts are) quiet = parts_none (scan_of asked) parts are
+answer_none (Saves parts done are) quiet = parts_none (scan_of (ScanFrom 0 None)) parts are
 answer_none (States all used free room) quiet = (refl, refl)
 answer_none Syncs quiet = (refl, refl)
 answer_none Refuses quiet = (refl, refl)

@@ -1,13 +1,14 @@
 -- What the lines that a pass answers add to what it has seen.
-use Rattle.std.specs.Prelude.{◌≡◌, ℕ, suc, ◌++◌, List, [], ◌∷◌, Option, Some, None, flat_map, map, length}
+use Rattle.std.specs.Prelude.{◌≡◌, ℕ, suc, Bool, ◌++◌, List, [], ◌∷◌, Option, Some, None, flat_map, map, length}
 use Rattle.std.specs.List.{AllZip}
 use Rattle.bl_model.specs.declared.operation.Entry.{Entry}
 use Rattle.bl_model.specs.declared.operation.Reply.{Reply}
 use Rattle.bl_serve_lines.specs.declared.request.Request.{Request}
-use Rattle.bl_serve_lines.specs.declared.request.Request.TheVariants.{Ask, Add, Scan, Stat, Sync}
-use Rattle.bl_serve_lines.specs.Lines.{Answer, Replied, Added, Scanned, Stated, Synced, Malformed, Adds, IsRoom, entries, rows_in, answer_text}
+use Rattle.bl_serve_lines.specs.declared.request.Request.TheVariants.{Ask, Add, Scan, Save, Stat, Sync}
+use Rattle.bl_serve_lines.specs.Lines.{Answer, Replied, Added, Scanned, Saved, Stated, Synced, Malformed, Adds, IsRoom, entries, rows_in, answer_text}
 use Rattle.bl_serve_lines.specs.Scans.{AreParts, rows_before, scan_of, shown}
 use Rattle.bl_serve_lines.specs.declared.listing.Listing.{Listing}
+use Rattle.bl_serve_lines.specs.declared.listing.Listing.TheVariants.{ScanFrom}
 use Rattle.bl_serve_lines.specs.declared.listing.Scan as listing
 use Rattle.bl_serve_lines.specs.Text.{numbered, row_text}
 use Rattle.bl_page.specs.declared.page.Page.{Page}
@@ -21,6 +22,7 @@ pub data IsFor (pages : ℕ × ℕ) : Option Request → Answer → Type 0 where
   Replies : (entry : Entry) → IsFor pages (Some (Ask entry.op)) (Replied entry)
   Sums : (key number : ℕ) (es : List Entry) (reply : Reply) → Adds key number None es reply → IsFor pages (Some (Add key number)) (Added key number es reply)
   Scans : (asked : Listing) (parts : List Entry) → AreParts (scan_of asked) parts → IsFor pages (Some (Scan asked)) (Scanned asked parts)
+  Saves : (parts : List Entry) (done : Bool) → AreParts (scan_of (ScanFrom 0 None)) parts → IsFor pages (Some Save) (Saved parts done)
   States : (all used free : ℕ) → IsRoom pages all used free → IsFor pages (Some Stat) (Stated all used free)
   Syncs : IsFor pages (Some Sync) Synced
   Refuses : IsFor pages None Malformed

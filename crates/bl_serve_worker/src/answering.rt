@@ -14,8 +14,8 @@ use crate::adding::add;
 use crate::aside::Aside;
 use crate::chunk::{Chunk, ShareOutput};
 use crate::gate::Gate;
+use crate::saving::save;
 use crate::scanning::scan;
-use crate::service::Service;
 use bl_map::{Handle, KeyReply};
 use bl_model::{KeyWrite, Op};
 use bl_serve_lines::print::{Response, push_key_line, push_line, push_word_line};
@@ -146,7 +146,7 @@ fn operate<R: Wait>(
 /// Answers the line of that number.
 fn answer<R: Wait, G: Gate>(
     rt: &R,
-    service: &Service<'_, G>,
+    chunk: &Chunk<'_, G>,
     aside: &mut Aside<'_>,
     handle: &mut Handle<'_>,
     number: u64,
@@ -157,7 +157,7 @@ fn answer<R: Wait, G: Gate>(
     ensures answers { OnOk result (HasAnswered number request text.old.items text.new.items handle.old handle.new) }
     ensures noted { OnOk result (Notes handle.old aside.old handle.new aside.new) }
 {
-    let gate = service.gate;
+    let gate = chunk.service.gate;
     match request {
         Some(Request::Ask(op)) => {
             gate.before(number);
@@ -174,6 +174,12 @@ fn answer<R: Wait, G: Gate>(
         Some(Request::Scan(asked)) => {
             gate.before(number);
             let answered = scan(rt, handle, number, asked, text);
+            gate.after(number);
+            answered
+        }
+        Some(Request::Save) => {
+            gate.before(number);
+            let answered = save(rt, chunk, handle, number, text);
             gate.after(number);
             answered
         }
@@ -224,7 +230,7 @@ pub(crate) fn answer_share<R: Wait, G: Gate>(
         let number = chunk.before + from as u64;
         let asked = chunk.lines[place];
         let bytes = text.len();
-        answer(rt, service, aside, handle, number, asked, &mut text)?;
+        answer(rt, chunk, aside, handle, number, asked, &mut text)?;
         lengths.push(text.len() - bytes)?;
         let may_sweep = number % LINES_TO_SWEEP == 0 || chunk.lines.len() == 1;
         sweep_if_may(handle, may_sweep);

@@ -6,6 +6,7 @@ use crate::service::Service;
 use crate::wakeup::Wakeup;
 use bl_changes::Changes;
 use bl_serve_lines::request::Request;
+use bl_serve_reading::Named;
 use crossbeam_channel::Receiver;
 
 /// The replies to the lines of a share, in the order of the lines.
@@ -50,6 +51,8 @@ pub struct Chunk<'a, G> {
     pub shares: &'a Receiver<u8>,
     /// What the lines ask for.
     pub lines: &'a [Option<Request>],
+    /// Those of them that name a file.
+    pub names: &'a [Named],
     /// The share of each line.
     pub deals: &'a [u8],
     /// How many lines of the input stand before them.
@@ -58,4 +61,15 @@ pub struct Chunk<'a, G> {
     pub last: bool,
     pub ghost room: { before + length lines.now < 2 ^ 64 },
     pub ghost dealt: { length deals.now ≡ length lines.now },
+}
+
+impl<G> Chunk<'_, G> {
+    /// The name of the file that the line of that number names, and no name where it names none. It is tested, and in no clause.
+    pub(crate) fn file_name(&self, number: u64) -> &[u8] {
+        let before = number.wrapping_sub(self.before).wrapping_sub(1);
+        match self.names.iter().find(|named| named.place as u64 == before) {
+            Some(named) => named.name.as_slice(),
+            None => b"",
+        }
+    }
 }

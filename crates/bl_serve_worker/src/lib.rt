@@ -16,6 +16,7 @@ mod aside;
 mod chunk;
 mod compressing;
 mod gate;
+mod saving;
 mod scanning;
 mod service;
 mod wakeup;

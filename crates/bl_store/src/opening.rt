@@ -9,7 +9,7 @@ ghost use Rattle.bl_store_rule.specs.declared.view.Sealing.TheVariants.{Unsealed
 use crate::store::{APART, Hand, Store};
 use atomic_table::{Seat, Split, Table};
 use bl_layout::Layout;
-use bl_room::{Room, Sight, is_all_zeros};
+use bl_room::{FirstWords, Room, Sight, is_all_zeros};
 use bl_store_rule::{Ground, PageRule, View};
 use std::alloc::{AllocError, Global};
 use std::mem;
@@ -29,31 +29,32 @@ impl<D> Split<View<D>> for Deal {
 impl<D, R: PageRule<D>> Store<D, R, Global> {
     /// A store whose pages have these words, and a hand for each pass, which knows at first what is lent here. A page with
     /// only zeros is released, every other is open.
-    pub fn new(
+    pub fn new<F: FirstWords + Drop>(
         alloc: Global,
-        first: &[[u64; 32]],
+        first: F,
         passes: u32,
         known: &D,
     ) -> Result<(Store<D, R, Global>, Vec<Hand<D>>), AllocError>
-        requires pages { (4 ≤ length first.now) × (length first.now ≤ 2 ^ 28) }
+        requires pages { (4 ≤ length (F.contents first)) × (length (F.contents first) ≤ 2 ^ 28) }
         requires passes { (1 ≤ passes) × (passes ≤ 64) }
-        requires rule { R.holds (first_pages first.now passes known.now) }
-        ensures layout { IfOk result (λ t. (t.0.layout.pages ≡ length first.now) × (t.0.layout.passes ≡ passes)) }
+        requires rule { R.holds (first_pages (F.contents first) passes known.now) }
+        ensures layout { IfOk result (λ t. (t.0.layout.pages ≡ length (F.contents first)) × (t.0.layout.passes ≡ passes)) }
         ensures hands { IfOk result (λ t. IsDealt t.0.table.shared.table_id t.0.layout known.now passes t.1.items) }
         ensures known { IfOk result (λ t. t.0.table.shared.key.known.value ≡ known.now) }
     {
-        Self::of_layout(alloc, Layout::of(first.len() as u32, passes), first, known)
+        let layout = Layout::of(first.count() as u32, passes);
+        Self::of_layout(alloc, layout, first, known)
     }
 
-    /// The same of so many pages, with so many frames to spare. These are the words of the first pages, and all others have only zeros.
-    pub fn of_layout(
+    /// The same of so many pages, with so many frames to spare. Who gives the words is let go as soon as they stand in the store. These are the words of the first pages, and all others have only zeros.
+    pub fn of_layout<F: FirstWords + Drop>(
         alloc: Global,
         layout: Layout,
-        first: &[[u64; 32]],
+        first: F,
         known: &D,
     ) -> Result<(Store<D, R, Global>, Vec<Hand<D>>), AllocError>
-        requires pages { length first.now ≤ layout.pages }
-        requires rule { R.holds (first_pages (padded layout.pages first.now) layout.passes known.now) }
+        requires pages { length (F.contents first) ≤ layout.pages }
+        requires rule { R.holds (first_pages (padded layout.pages (F.contents first)) layout.passes known.now) }
         ensures layout { IfOk result (λ t. t.0.layout ≡ layout) }
         ensures hands { IfOk result (λ t. IsDealt t.0.table.shared.table_id layout known.now layout.passes t.1.items) }
         ensures known { IfOk result (λ t. t.0.table.shared.key.known.value ≡ known.now) }
@@ -62,7 +63,10 @@ impl<D, R: PageRule<D>> Store<D, R, Global> {
         for _ in 0..layout.cells() {
             words.push(0u64)?;
         }
-        lay(layout, first, words.as_mut_slice());
+        lay(layout, &first, words.as_mut_slice());
+        let room = Room::new(alloc, layout, &first)?;
+        // Nobody needs it any more, and the table takes as much memory again.
+        drop(first);
         let ground = Ground {
             layout,
             known: Snapshot::of(known),
@@ -75,7 +79,7 @@ impl<D, R: PageRule<D>> Store<D, R, Global> {
             firsts: layout.frame_word_cell(0, 0),
             stamps: layout.process_cell(0),
             apart: [0; APART],
-            room: Room::new(alloc, layout, first)?,
+            room,
             behind: [0; APART],
         };
         let hands = store.deal(alloc, seat)?;
@@ -120,26 +124,33 @@ impl<D> Hand<D> {
 }
 
 // Gives each page that is not all zeros the frame of its own number.
-fn lay(layout: Layout, first: &[[u64; 32]], words: &mut [u64])
-    requires pages { length first.now ≤ layout.pages }
+fn lay<F: FirstWords>(layout: Layout, first: &F, words: &mut [u64])
+    requires pages { length (F.contents first.now) ≤ layout.pages }
     requires words { words.old ≡ replicate (cell_count layout) 0 }
-    ensures { Laid layout first.now words.new (length first.now) }
+    ensures { Laid layout (F.contents first.now) words.new (length (F.contents first.now)) }
 {
-    for page in 0..first.len() as u32 {
-        if !is_all_zeros(&first[page as usize]) {
-            lay_page(layout, first, page, words);
+    for page in 0..first.count() as u32 {
+        let contents = first.words_of(page);
+        if !is_all_zeros(&contents) {
+            lay_page(layout, first, page, &contents, words);
         }
     }
 }
 
-fn lay_page(layout: Layout, first: &[[u64; 32]], page: u32, words: &mut [u64])
-    requires pages { length first.now ≤ layout.pages }
-    requires page { page < length first.now }
-    requires words { is_blank (slice_index_or first.now page []) ≡ false }
-    requires laid { Laid layout first.now words.old page }
-    ensures { Laid layout first.now words.new (page + 1) }
+fn lay_page<F: FirstWords>(
+    layout: Layout,
+    first: &F,
+    page: u32,
+    contents: &[u64; 32],
+    words: &mut [u64],
+)
+    requires pages { length (F.contents first.now) ≤ layout.pages }
+    requires page { page < length (F.contents first.now) }
+    requires contents { (contents.now ≡ slice_index_or (F.contents first.now) page []) × (is_blank contents.now ≡ false) }
+    requires laid { Laid layout (F.contents first.now) words.old page }
+    ensures { Laid layout (F.contents first.now) words.new (page + 1) }
 {
-    let contents = first[page as usize];
+    let _ = first;
     words[layout.frame_owner_cell(page)] = 2;
     for place in 0..32 {
         words[layout.frame_word_cell(page, place)] = contents[place as usize];

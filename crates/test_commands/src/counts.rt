@@ -2,7 +2,7 @@
 
 use crate::streams::Full;
 use bl_cli_streams::{Piped, Usage, malformed_line, noroom_line, stats_line};
-use bl_serve_lines::Totals;
+use bl_serve_lines::{Totals, Wrong};
 use std::alloc::Global;
 use std::io::Write;
 use std::test::Fail;
@@ -69,13 +69,29 @@ fn lines_of_counts(rt: HostRuntime) -> Result<(), Fail> {
 
 #[test]
 fn lines_of_malformed_requests(rt: HostRuntime) -> Result<(), Fail> {
-    let one = malformed_line(rt.alloc(), 1, 5)?;
-    let more = malformed_line(rt.alloc(), 14, 1)?;
-    assert_eq!(rt; one.as_str(), "blink: 1 request was malformed: line 5");
-    assert_eq!(rt;
-        more.as_str(),
-        "blink: 14 requests were malformed; the first is line 1"
-    );
+    for (malformed, first, wrong, said) in [
+        (
+            1,
+            5,
+            Wrong::Word(2),
+            "1 request was malformed: line 5, at word 2",
+        ),
+        (
+            14,
+            1,
+            Wrong::Long,
+            "14 requests were malformed; the first is line 1, which has more than 69 bytes",
+        ),
+        (
+            2,
+            3,
+            Wrong::Open,
+            "2 requests were malformed; the first is line 3, which ends without a line feed",
+        ),
+    ] {
+        let line = malformed_line(rt.alloc(), malformed, first, wrong)?;
+        assert_eq!(rt; line.as_str().strip_prefix("blink: "), Some(said));
+    }
     Ok(())
 }
 

@@ -93,6 +93,39 @@ fn an_image_is_opened_with_more_pages(rt: HostRuntime) {
     assert!(rt; seen == Some((64, (2, true, KeyReply::Inserted))));
 }
 
+/// The index with two passes that begins with an image, which goes.
+fn begun_with(alloc: Global, quiet: Quiet) -> Option<(Index, Vec<Pass>)>
+    ensures { IfSome result (λ t. All (IsPassOf t.0) t.1.items) }
+{
+    match Index::begin_with(alloc, quiet, 2) {
+        Ok((index, passes)) => Some((index, passes)),
+        Err(_) => None,
+    }
+}
+
+/// How many pages and passes an index has that begins so with a full one's image, and whether all rows are there.
+fn begun_again<R: Wait>(rt: &R, alloc: Global) -> Option<(u32, usize, bool)> {
+    let (quiet, full_at) = image_of(rt, alloc)?;
+    let (index, mut passes) = begun_with(alloc, quiet)?;
+    let many = passes.len();
+    let mut pass = passes.pop()?;
+    let all = found(&index, &mut pass, full_at) == full_at;
+    Some((index.patience(), many, all))
+}
+
+/// Why no index begins with such an image that is to have so many passes.
+fn not_begun<R: Wait>(rt: &R, alloc: Global, passes: u32) -> Option<OpenFault> {
+    let (quiet, _full_at) = image_of(rt, alloc)?;
+    Index::begin_with(alloc, quiet, passes).err()
+}
+
+#[test]
+fn an_index_begins_with_an_image_that_goes(rt: HostRuntime) {
+    assert!(rt; begun_again(&rt, rt.alloc()) == Some((16, 2, true)));
+    assert!(rt; not_begun(&rt, rt.alloc(), 0) == Some(OpenFault::Passes));
+    assert!(rt; not_begun(&rt, rt.alloc(), 65) == Some(OpenFault::Passes));
+}
+
 /// Why an image of 16 pages is not opened with 15, with more than 2^28, and with 65 passes.
 fn faults<R: Wait>(rt: &R, alloc: Global) -> Option<[OpenFault; 3]> {
     let (quiet, _full_at) = image_of(rt, alloc)?;

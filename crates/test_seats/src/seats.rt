@@ -180,6 +180,16 @@ fn a_range_has_the_rows_between_its_keys(rt: HostRuntime) {
 }
 
 #[test]
+fn a_scan_has_so_many_rows_and_tells_where_the_next_begin(rt: HostRuntime) {
+    let mut seat = opened(rt.alloc(), 1_024).expect(&rt, "it is opened");
+    let count = insert_many(&mut seat, 300);
+    let (some, next) = seat.scan(rt.alloc(), Direction::Up, 97, None, 100);
+    assert!(rt; count == 300 && some.len() == 100 && next == Ok(Some(197)));
+    let (some, next) = seat.scan(rt.alloc(), Direction::Down, 97, Some(94), 100);
+    assert!(rt; some.as_slice() == [(97, 97), (96, 96), (95, 95)].as_slice() && next == Ok(None));
+}
+
+#[test]
 fn a_part_downwards_has_the_rows_up_to_its_key(rt: HostRuntime) {
     let mut seat = opened(rt.alloc(), 64).expect(&rt, "it is opened");
     let count = insert_many(&mut seat, 5);
@@ -287,7 +297,7 @@ fn spelled(alloc: Global) -> Option<[u8; 32 + 256 * 64]> {
     }
     let seats = boxed(alloc, seat)?;
     let quiet = close(alloc, seats).ok()?;
-    if quiet.image().pages.len() != 64 {
+    if quiet.image().size() != 32 + 256 * 64 {
         return None;
     }
     let mut bytes = [0; 32 + 256 * 64];

@@ -57,6 +57,10 @@ impl Gate for HoldsFirst {
         }
         self.done.fetch_add(1, Ordering::SeqCst);
     }
+
+    fn save(&self, _name: &[u8], _rows: &[(u64, u64)]) -> bool {
+        false
+    }
 }
 
 /// Whether two passes that have met write these lines for those behind the gate.

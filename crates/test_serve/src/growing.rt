@@ -8,7 +8,7 @@ use bl_check::{Quiet, Report, check};
 use bl_journal::rows_in;
 use bl_model::Watched;
 use bl_outside::{Outside, Tape};
-use bl_serve::{Origin, Sectioning, ServePlan, dump_by_plan, serve_by_plan};
+use bl_serve::{OpenGate, Origin, Sectioning, ServePlan, dump_by_plan, serve_by_plan};
 use std::alloc::Global;
 use std::sync::Wait;
 use std::test::Fail;
@@ -55,8 +55,15 @@ fn grown<R: Threads + Wait + Sync>(
     let mut writer = Watched::new(Vec::new(alloc));
     let origin = Origin::Empty(4);
     let plan = plan_to(sections, most);
-    let Ok((summary, Ok(quiet))) = dump_by_plan(rt, alloc, origin, plan, &mut reader, &mut writer)
-    else {
+    let Ok((summary, Ok(quiet))) = dump_by_plan(
+        rt,
+        alloc,
+        origin,
+        plan,
+        &mut reader,
+        &mut writer,
+        &OpenGate,
+    ) else {
         return None;
     };
     let (pages, report) = seen_of(alloc, &quiet)?;
@@ -190,7 +197,15 @@ fn kept<R: Threads + Wait + Sync>(rt: &R, alloc: Global, input: &[u8]) -> Option
     let plan = plan_to(Sectioning::AtMost(10), 64);
     let mut reader = Watched::new(input);
     let mut tape = Tape::new(alloc, 7, Vec::new(alloc));
-    match serve_by_plan(rt, alloc, Origin::Empty(4), plan, &mut reader, &mut tape) {
+    match serve_by_plan(
+        rt,
+        alloc,
+        Origin::Empty(4),
+        plan,
+        &mut reader,
+        &mut tape,
+        &OpenGate,
+    ) {
         Ok(_) => Some(tape),
         Err(_) => None,
     }

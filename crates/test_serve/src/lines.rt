@@ -4,7 +4,9 @@ ghost use Rattle.std.specs.Prelude.{◌≤◌, ◌^◌};
 
 use bl_check::{Report, check};
 use bl_model::Watched;
-use bl_serve::{Origin, Sectioning, ServeFault, ServePlan, Totals, dump_by_plan, serve_by_plan};
+use bl_serve::{
+    OpenGate, Origin, Sectioning, ServeFault, ServePlan, Totals, dump_by_plan, serve_by_plan,
+};
 use std::alloc::Global;
 use std::io;
 use std::io::{Read, Write};
@@ -25,7 +27,7 @@ fn end<R: Threads + Wait + Sync, I: Read + Drop, O: Write + Drop>(
     let mut reader = Watched::new(reader);
     let mut writer = Watched::new(writer);
     let origin = Origin::Empty(8);
-    let ended = serve_by_plan(rt, alloc, origin, plan, &mut reader, &mut writer);
+    let ended = serve_by_plan(rt, alloc, origin, plan, &mut reader, &mut writer, &OpenGate);
     (ended.map(|summary| summary.totals), writer.into_inner())
 }
 
@@ -207,7 +209,15 @@ fn rows_left<R: Threads + Wait + Sync>(rt: &R, alloc: Global, input: &[u8]) -> O
     let mut reader = Watched::new(input);
     let mut writer = Watched::new(Vec::new(alloc));
     let origin = Origin::Empty(8);
-    let Ok((_, Ok(quiet))) = dump_by_plan(rt, alloc, origin, plan, &mut reader, &mut writer) else {
+    let Ok((_, Ok(quiet))) = dump_by_plan(
+        rt,
+        alloc,
+        origin,
+        plan,
+        &mut reader,
+        &mut writer,
+        &OpenGate,
+    ) else {
         return None;
     };
     let mut image = Watched::new(Vec::new(alloc));

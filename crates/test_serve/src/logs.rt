@@ -3,7 +3,7 @@
 use bl_journal::rows_in;
 use bl_model::Watched;
 use bl_outside::{Outside, Scene, Tape};
-use bl_serve::{Origin, Sectioning, ServePlan, serve_by_plan};
+use bl_serve::{OpenGate, Origin, Sectioning, ServePlan, serve_by_plan};
 use std::alloc::Global;
 use std::sync::Wait;
 use std::test::Fail;
@@ -20,7 +20,7 @@ fn kept<R: Threads + Wait + Sync>(rt: &R, alloc: Global, input: &[u8]) -> Option
     let mut reader = Watched::new(input);
     let mut tape = Tape::new(alloc, 7, Vec::new(alloc));
     let origin = Origin::Empty(16);
-    match serve_by_plan(rt, alloc, origin, plan, &mut reader, &mut tape) {
+    match serve_by_plan(rt, alloc, origin, plan, &mut reader, &mut tape, &OpenGate) {
         Ok(_) => Some(tape),
         Err(_) => None,
     }

@@ -4,7 +4,9 @@ ghost use Rattle.std.specs.Prelude.{◌≤◌};
 
 use crate::served::inserts_before;
 use bl_model::Watched;
-use bl_serve::{Origin, Remarks, Sectioning, ServePlan, Summary, Totals, serve_by_plan};
+use bl_serve::{
+    OpenGate, Origin, Remarks, Sectioning, ServePlan, Summary, Totals, Wrong, serve_by_plan,
+};
 use std::alloc::Global;
 use std::sync::Wait;
 use std::test::Fail;
@@ -29,7 +31,7 @@ fn counted<R: Threads + Wait + Sync>(
     let mut reader = Watched::new(input);
     let mut writer = Watched::new(Vec::new(alloc));
     let origin = Origin::Empty(4);
-    match serve_by_plan(rt, alloc, origin, plan, &mut reader, &mut writer) {
+    match serve_by_plan(rt, alloc, origin, plan, &mut reader, &mut writer, &OpenGate) {
         Ok(summary) => Some(summary),
         Err(_) => None,
     }
@@ -46,11 +48,16 @@ fn the_first_malformed_line_and_the_longest_section_are_told(rt: HostRuntime) {
             None,
             27,
         ),
-        (b"find 1\nx\n\nsync\ny".as_slice(), (5, 3, 1), Some(2), 42),
+        (
+            b"find 1\nput 3 x\n\nsync\ny".as_slice(),
+            (5, 3, 1),
+            Some((2, Wrong::Word(3))),
+            42,
+        ),
         (
             b"sync\nfind 1\nsync\nfind 1\nfind 2\nfind 3".as_slice(),
             (6, 1, 2),
-            Some(6),
+            Some((6, Wrong::Open)),
             30,
         ),
     ] {

@@ -95,7 +95,7 @@ pub fn hands(alloc: Global, pages: u32, passes: u32) -> Result<(Held, Vec<Hand<M
         first.push(if page < 2 { [1u64; 32] } else { [0u64; 32] })?;
     }
     let known = Mine { held: None };
-    let (store, hands) = Store::new(alloc, first.as_slice(), passes, &known)?;
+    let (store, hands) = Store::new(alloc, first, passes, &known)?;
     Ok((store, hands))
 }
 

@@ -127,17 +127,63 @@ fn an_image_is_written_as_it_was_read(rt: HostRuntime) -> Result<(), Fail> {
     let image = read(rt.alloc(), &opening(&[])).ok().ok_or("no image")?;
     let back = reread(rt.alloc(), &image).ok().ok_or("not read again")?;
     assert!(rt; back.pages.len() == 4);
+    assert!(rt; back.words_at(1)[0] == 2 << 32 && back.words_at(2) == [0; 32]);
     Ok(())
 }
 
 #[test]
 fn an_image_is_spelled_into_an_array(rt: HostRuntime) -> Result<(), Fail> {
     let image = read(rt.alloc(), &opening(&[])).ok().ok_or("no image")?;
-    assert!(rt; image.pages.len() == 4 && image_length(4) == 1056);
+    assert!(rt; image.size() == 1056 && image_length(4) == 1056);
     let mut bytes = [255; 1056];
     image.spell(&mut bytes);
     assert!(rt; bytes.as_slice() == opening(&[]).as_slice());
     Ok(())
+}
+
+/// The image of an opening index of 65,537 pages, of which four are stored, with these bytes changed.
+fn large(changes: &[Byte]) -> [u8; 1056] {
+    let mut bytes = opening(&[(8, 2), (12, 1), (14, 1), (16, 4)]);
+    set(&mut bytes, changes);
+    bytes
+}
+
+#[test]
+fn of_a_large_image_no_page_behind_the_last_one_in_use_is_stored(
+    rt: HostRuntime,
+) -> Result<(), Fail> {
+    let mut writer = Watched::new(Vec::new(rt.alloc()));
+    assert!(rt; copy(rt.alloc(), &large(&[]), &mut writer).is_ok());
+    assert!(rt; writer.into_inner().as_slice() == large(&[]).as_slice());
+    let image = read(rt.alloc(), &large(&[])).ok().ok_or("no image")?;
+    assert!(rt; image.pages.len() == 65_537 && image.size() == 1056);
+    let back = reread(rt.alloc(), &image).ok().ok_or("not read again")?;
+    assert!(rt; back.pages.len() == 65_537);
+    Ok(())
+}
+
+// Three pages and five, where four are stored; five, of which the last is not in use; and where it is a dead leaf.
+#[test]
+fn a_large_image_stores_no_page_in_vain(rt: HostRuntime) {
+    for stored in [3, 5] {
+        let fault = read(rt.alloc(), &large(&[(16, stored)])).err();
+        assert!(rt; fault == Some(ImageFault::Head));
+    }
+    let mut five = [0; 1312];
+    five[..1056].copy_from_slice(&large(&[(16, 5)]));
+    assert!(rt; read(rt.alloc(), &five).err() == Some(ImageFault::Head));
+    five[1060] = 4;
+    assert!(rt; read(rt.alloc(), &five).is_ok());
+}
+
+// The version and the numbers are those of another image.
+#[test]
+fn an_image_of_the_other_version_is_none(rt: HostRuntime) {
+    let changes: [&[Byte]; 3] = [&[(8, 1)], &[(14, 0)], &[(12, 0)]];
+    for change in changes {
+        assert!(rt; read(rt.alloc(), &large(change)).err() == Some(ImageFault::Head));
+    }
+    assert!(rt; read(rt.alloc(), &opening(&[(16, 4)])).err() == Some(ImageFault::Head));
 }
 
 #[test]

@@ -2,12 +2,22 @@
 
 use bl_layout::Layout;
 use bl_room::{Room, Sight, is_all_zeros};
+use std::alloc::{AllocError, Global};
 use std::test::Fail;
+
+// The words of so many pages in use.
+fn used(alloc: Global, pages: u32) -> Result<Vec<[u64; 32]>, AllocError> {
+    let mut first = Vec::new(alloc);
+    for _ in 0..pages {
+        first.push([1u64; 32])?;
+    }
+    Ok(first)
+}
 
 // Of 5,000 pages the first three have words, and all others are free. Pages 0 to 4,095 are counted together, and so are those behind them.
 #[test]
 fn free_pages_stand_in_two_blocks(rt: HostRuntime) -> Result<(), Fail> {
-    let room = Room::new(rt.alloc(), Layout::of(5_000, 2), &[[1; 32]; 3])?;
+    let room = Room::new(rt.alloc(), Layout::of(5_000, 2), &used(rt.alloc(), 3)?)?;
     assert!(rt; room.free() == 4_997 && room.retiring() == 0);
     assert!(rt; room.near(5_000) == (1, 4_096));
     assert!(rt; room.next_block(4_096, 5_000) == (4_096, 5_000));
@@ -18,7 +28,7 @@ fn free_pages_stand_in_two_blocks(rt: HostRuntime) -> Result<(), Fail> {
 // A page that is taken is the last one of which the next hand thinks, and one that is released the first.
 #[test]
 fn released_page_is_the_least(rt: HostRuntime) -> Result<(), Fail> {
-    let room = Room::new(rt.alloc(), Layout::of(5_000, 2), &[[1; 32]; 3])?;
+    let room = Room::new(rt.alloc(), Layout::of(5_000, 2), &used(rt.alloc(), 3)?)?;
     room.note_taken(3);
     assert!(rt; room.free() == 4_996 && room.near(5_000) == (4, 4_096));
     room.note_retired();
@@ -32,7 +42,7 @@ fn released_page_is_the_least(rt: HostRuntime) -> Result<(), Fail> {
 // Each of two hands begins with 1,024 frames of its own. What is taken then stands behind these, as many frames at once, or those that are left.
 #[test]
 fn chunks_follow_each_other(rt: HostRuntime) -> Result<(), Fail> {
-    let room = Room::new(rt.alloc(), Layout::of(5_000, 2), &[[1; 32]; 3])?;
+    let room = Room::new(rt.alloc(), Layout::of(5_000, 2), &used(rt.alloc(), 3)?)?;
     assert!(rt; room.take_chunk(4_000) == (2_048, 3_072));
     assert!(rt; room.take_chunk(4_000) == (3_072, 4_000));
     assert!(rt; room.take_chunk(4_000) == (4_000, 4_000));
@@ -43,7 +53,7 @@ fn chunks_follow_each_other(rt: HostRuntime) -> Result<(), Fail> {
 // released or taken each is counted, and whoever has looked at a chunk says how many it has.
 #[test]
 fn spare_frames_are_counted(rt: HostRuntime) -> Result<(), Fail> {
-    let room = Room::new(rt.alloc(), Layout::of(5_000, 2), &[[1; 32]; 3])?;
+    let room = Room::new(rt.alloc(), Layout::of(5_000, 2), &used(rt.alloc(), 3)?)?;
     assert!(rt; room.has_spare(0, 10_016, 10_013, 10) && !room.has_spare(0, 10_016, 10_014, 10));
     assert!(rt; room.has_spare(0, 10_016, 1_021, 1) && !room.has_spare(0, 10_016, 1_022, 1));
     assert!(rt; room.next_spare(9_300, 10_016) == (9_216, 10_016));
@@ -73,7 +83,7 @@ fn a_look_passes_by_full_chunks(rt: HostRuntime) -> Result<(), Fail> {
     let first = vec![in rt.alloc(); [1u64; 32]; 3_000]
         .ok()
         .ok_or("no memory")?;
-    let room = Room::new(rt.alloc(), Layout::of(5_000, 2), first.as_slice())?;
+    let room = Room::new(rt.alloc(), Layout::of(5_000, 2), &first)?;
     assert!(rt; room.has_spare(0, 10_016, 72, 1) && !room.has_spare(0, 10_016, 73, 1));
     assert!(rt; room.has_spare(0, 10_016, 1_096, 2) && !room.has_spare(0, 10_016, 1_097, 2));
     Ok(())
@@ -83,7 +93,7 @@ fn a_look_passes_by_full_chunks(rt: HostRuntime) -> Result<(), Fail> {
 #[test]
 fn fresh_frames_are_left(rt: HostRuntime) -> Result<(), Fail> {
     let layout = Layout::of(70_000, 2);
-    let room = Room::new(rt.alloc(), layout, &[])?;
+    let room = Room::new(rt.alloc(), layout, &used(rt.alloc(), 0)?)?;
     assert!(rt; room.has_fresh(layout) && !room.has_spare(0, layout.frames(), 1, 1_000));
     // A hand that has gone on into them leaves its chunk behind.
     room.note_spent(5_000, 1);
@@ -96,7 +106,11 @@ fn fresh_frames_are_left(rt: HostRuntime) -> Result<(), Fail> {
     assert!(rt; room.has_fresh(layout));
     room.take_chunk(layout.frames());
     assert!(rt; !room.has_fresh(layout));
-    assert!(rt; !Room::new(rt.alloc(), Layout::of(5_000, 2), &[])?.has_fresh(Layout::of(5_000, 2)));
+    assert!(rt;
+        !Room::new(rt.alloc(), Layout::of(5_000, 2), &used(rt.alloc(), 0)?)?.has_fresh(Layout::of(
+            5_000, 2
+        ))
+    );
     Ok(())
 }
 
@@ -104,7 +118,7 @@ fn fresh_frames_are_left(rt: HostRuntime) -> Result<(), Fail> {
 // one ended counts for nothing, and where a hand was refused nobody goes by what was seen before.
 #[test]
 fn puts_are_seen_ahead(rt: HostRuntime) -> Result<(), Fail> {
-    let room = Room::new(rt.alloc(), Layout::of(5_000, 2), &[[1; 32]; 3])?;
+    let room = Room::new(rt.alloc(), Layout::of(5_000, 2), &used(rt.alloc(), 3)?)?;
     assert!(rt; !room.take_ahead(64));
     let mark = room.ahead();
     room.note_ahead(mark, 128);
@@ -120,7 +134,7 @@ fn puts_are_seen_ahead(rt: HostRuntime) -> Result<(), Fail> {
 // A walk that found nothing counts until something comes, and where no other one has begun meanwhile.
 #[test]
 fn walks_tell_that_there_is_none(rt: HostRuntime) -> Result<(), Fail> {
-    let room = Room::new(rt.alloc(), Layout::of(5_000, 2), &[[0; 32]])?;
+    let room = Room::new(rt.alloc(), Layout::of(5_000, 2), &used(rt.alloc(), 1)?)?;
     let first = room.begin_walk();
     let second = room.begin_walk();
     room.end_walk(first);
@@ -136,7 +150,7 @@ fn walks_tell_that_there_is_none(rt: HostRuntime) -> Result<(), Fail> {
 // not each hand finds one.
 #[test]
 fn pages_are_scarce(rt: HostRuntime) -> Result<(), Fail> {
-    let room = Room::new(rt.alloc(), Layout::of(5, 2), &[[1; 32]; 3])?;
+    let room = Room::new(rt.alloc(), Layout::of(5, 2), &used(rt.alloc(), 3)?)?;
     assert!(rt; room.lacks_pages() && !room.is_freeing_enough() && !room.is_short_of_pages());
     for _ in 0..4 {
         room.note_retired();

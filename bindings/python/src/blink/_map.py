@@ -171,7 +171,7 @@ class Map(MutableMapping[int, int]):
         if pages is None:
             wanted = len(rows) // _ROWS_A_PAGE if hasattr(rows, "__len__") else 0
             self._begin(max(_PAGES, wanted), seats, image, path, grows=True)
-        elif image is None or lib.blink_image_length(pages) == len(image):
+        elif image is None or int.from_bytes(image[12:16], "little") == pages:
             self._begin(pages, seats, image, path)
         else:
             with Map.from_image(image, seats=1) as old:
@@ -549,7 +549,8 @@ class Map(MutableMapping[int, int]):
         # It may grow until it is closed.
         while code == lib.BLINK_FEW_BYTES:
             image = bytearray(lib.blink_image_length(self.pages))
-            code = lib.shim_image(self._at, ffi.from_buffer("uint8_t[]", image), len(image), is_open)
+            size = _new("size_t *", len(image))
+            code = lib.shim_image(self._at, ffi.from_buffer("uint8_t[]", image), size, is_open)
         if code == lib.BLINK_CLOSED:
             kept = _new("uint8_t **")
             length = lib.shim_kept(self._at, kept)
@@ -557,7 +558,8 @@ class Map(MutableMapping[int, int]):
                 return bytearray(ffi.buffer(kept[0], length)), True
         if code != _OK:
             _refuse(code)
-        return image, bool(is_open[0])
+        # That of a large map may be shorter.
+        return image if size[0] == len(image) else image[: size[0]], bool(is_open[0])
 
     def image(self) -> bytes:
         """The map's image. Calls of other threads wait meanwhile, since it is closed and opened again. Where memory was refused as it

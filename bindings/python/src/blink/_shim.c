@@ -238,13 +238,14 @@ static void shim_free(shim_map *map) {
     free(map);
 }
 
-/* Closes the map, and writes its image to the array, which has room for it. Where it is to go on, it is opened from the
+/* Closes the map, and writes its image to the array, which has room for it: `*size` bytes, and then says how many they are. Where it is to go on, it is opened from the
  * image again before other threads' calls, which wait meanwhile; `*goes_on` says whether it is open behind this. */
-static int32_t shim_image(shim_map *map, uint8_t *bytes, size_t room, bool *goes_on) {
+static int32_t shim_image(shim_map *map, uint8_t *bytes, size_t *size, bool *goes_on) {
     uint64_t length = 0;
     int32_t answer;
     shim_take_all(map);
-    answer = blink_close_image(map->seats, map->count, bytes, room, &length);
+    answer = blink_close_image(map->seats, map->count, bytes, *size, &length);
+    if (answer == BLINK_OK) *size = (size_t)length;
     if (answer == BLINK_OK && *goes_on)
         *goes_on = blink_open_image(bytes, (size_t)length, map->seats, map->count) == BLINK_OK;
     if (answer == BLINK_OK && !*goes_on) map->rows = SHIM_CLOSED;

@@ -273,6 +273,22 @@ extern "C" {
         room: usize,
         part: *mut blink_part,
     ) -> i32;
+    pub fn blink_try_scan(
+        seat: *mut blink_seat,
+        from: u64,
+        last: u64,
+        rows: *mut blink_row,
+        room: usize,
+        part: *mut blink_part,
+    ) -> i32;
+    pub fn blink_try_scan_down(
+        seat: *mut blink_seat,
+        from: u64,
+        last: u64,
+        rows: *mut blink_row,
+        room: usize,
+        part: *mut blink_part,
+    ) -> i32;
     pub fn blink_try_range(
         seat: *mut blink_seat,
         from: u64,

@@ -135,6 +135,17 @@ fn edges() {
     assert!(matches!(other.close_image(), Err(CloseError::HandlesOut(_))));
 }
 
+// The anchor and a leaf are in use, and four pages are stored.
+#[test]
+fn the_image_of_a_large_map_is_short() {
+    let map = Map::new(65_537, 1).unwrap();
+    map.handle().unwrap().insert(5, 50).unwrap();
+    let image = map.close_image().unwrap();
+    assert_eq!(image.len(), 32 + 256 * 4);
+    let again = Map::from_image(&image, 1).unwrap();
+    assert_eq!((again.pages(), again.handle().unwrap().get(5)), (65_537, Some(50)));
+}
+
 #[test]
 fn is_resized() {
     let map = Map::new(16, 2).unwrap();

@@ -1,7 +1,6 @@
-use Rattle.std.proofs.Common.{rules, arith, ◌≡◌, ℕ, List, ap, sym, subst, ◌∙◌}
+use Rattle.std.proofs.Common.{rules, arith, ◌≡◌, ℕ, List, ap, ◌∙◌}
 use lib.ListN.{get_elem?}
-use Rattle.bl_store.specs.Opening.{first_pages}
-use Rattle.test_store_rule.specs.Holding.{first_words, holding, Fits}
+use Rattle.test_store_rule.specs.Holding.{first_words}
 use Rattle.test_store_rule.proofs.Steps.{first_low, first_high, listed, starts, all_fresh}
 use Rattle.test_store_rule.proofs.hands.Goals as goal
 use Rattle.test_store_rule.proofs.hands.Goals.{then-page-lt2, else-page-lt2}
@@ -14,8 +13,8 @@ loop-page-preserved c = let inv = c.loop-page.invariant in let items = c.in_ok-p
     }
 
 pub new-requires-clause-rule : goal.new-requires-clause-rule
-new-requires-clause-rule c = let inv = c.loop-page.invariant in let value = c.as_slice.ensures.value in let end = c.loop-page-test.false in let size = inv.size in
-    subst (λ (z : List (List ℕ)). Fits (first_pages z c.args.passes (holding _))) (sym value) (starts c.loop-page.first.items c.args.passes (λ k low. inv.each k (omega arith)))
+new-requires-clause-rule c = let inv = c.loop-page.invariant in let end = c.loop-page-test.false in let size = inv.size in
+    starts c.loop-page.first.items c.args.passes (λ k low. inv.each k (omega arith))
 
 pub returns-clause-fresh : goal.returns-clause-fresh
 returns-clause-fresh c = all_fresh _ _ _ _ c.in_ok-store.ensures.hands

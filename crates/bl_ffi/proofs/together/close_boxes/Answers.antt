@@ -3,7 +3,7 @@ use Rattle.std.specs.Prelude.{slice_get}
 use Rattle.std.specs.Arc.{arc_value}
 use Rattle.std.proofs.lemmas.List.{length-take-le}
 use Rattle.bl_index.specs.Calls.{pages_of}
-use Rattle.bl_image.specs.Images.{IsImage}
+use Rattle.bl_image.specs.Images.{IsImage, image_size}
 use Rattle.bl_image.specs.declared.image.Image.{Image}
 use Rattle.bl_ffi_seats.specs.Closed.{values}
 use Rattle.bl_ffi_seats.specs.declared.seat.Seat.{Seat}
@@ -28,13 +28,15 @@ returns-then-needed-bytes c =
       refl,
     ))
 
+-- the image is no longer than there is room for
 pub spell-requires : goal.spell-requires
 spell-requires c =
     let boxes = c.args.boxes.items in let box = c.in-Some.first.now in
     let first : Some box ≡ slice_get boxes 0 = c.in-Some.ensures.value ∙ ap (λ (z : List Boxed). slice_get z 0) c.deref.ensures.value in
     let long : c.image_length-needed.result ≡ 32 + 256 * pages_of (arc_value box.value.index) = c.image_length-needed.ensures ∙ (ap (λ n. 32 + 256 * n) (c.pages.ensures ∙ ap (λ (z : Seat). pages_of (arc_value z.index)) c.deref-2.ensures)) in
     let many = pages_closed boxes box c.in-Ok.quiet.image.pages.items first c.in-Ok.ensures.ok in
-    length-take-le c.image_length-needed.result c.args.bytes.now (omega (arith, c.if-needed-bytes.false)) ∙ (long ∙ (ap (λ n. 32 + 256 * n) (sym many) ∙ ap (λ (z : Image). 32 + 256 * length z.pages.items) (sym c.image.ensures.same)))
+    let same = ap (λ (z : Image). length z.pages.items) c.image-image.ensures.same in
+    length-take-le c.size-size.result c.args.bytes.now (omega (arith, c.size-size.ensures.most, same, many, long, c.if-needed-bytes.false)) ∙ c.size-size.ensures.same
 
 pub put_all-requires-in-Err : goal.put_all-requires-in-Err
 put_all-requires-in-Err c =
@@ -44,11 +46,17 @@ put_all-requires-in-Err c =
 pub returns-in-Ok : goal.returns-in-Ok
 returns-in-Ok c =
     let boxes = c.args.boxes.items in
+    let pages = c.in-Ok.quiet.image.pages.items in let box = c.in-Some.first.now in
+    let first : Some box ≡ slice_get boxes 0 = c.in-Some.ensures.value ∙ ap (λ (z : List Boxed). slice_get z 0) c.deref.ensures.value in
+    let long : c.image_length-needed.result ≡ 32 + 256 * pages_of (arc_value box.value.index) = c.image_length-needed.ensures ∙ (ap (λ n. 32 + 256 * n) (c.pages.ensures ∙ ap (λ (z : Seat). pages_of (arc_value z.index)) c.deref-2.ensures)) in
+    let many = pages_closed boxes box pages first c.in-Ok.ensures.ok in
+    let sized = ap (λ (z : Image). length z.pages.items) c.image-image.ensures.same in
+    let same : c.size-size.result ≡ image_size pages = c.size-size.ensures.same ∙ ap (λ (z : Image). image_size z.pages.items) c.image-image.ensures.same in
     inl (
       refl,
-      closed_to (values boxes) (seats_in c.args.places.now) c.args.bytes.now c.spell.new.bytes c.image_length-needed.result (length c.args.places.now) c.in-Ok.quiet.image.pages.items c.in-Ok.ensures.ok
-          (sym (value_length boxes ∙ c.requires.count)) c.requires.empty (subst (λ (z : Image). IsImage z.pages.items c.spell.new.bytes) c.image.ensures.same c.spell.ensures)
-          (c.spell.auto.bytes ∙ length-take-le c.image_length-needed.result c.args.bytes.now (omega (arith, c.if-needed-bytes.false))),
+      closed_to (values boxes) (seats_in c.args.places.now) c.args.bytes.now c.spell.new.bytes c.size-size.result (length c.args.places.now) pages c.in-Ok.ensures.ok
+          (sym (value_length boxes ∙ c.requires.count)) c.requires.empty (subst (λ (z : Image). IsImage z.pages.items c.spell.new.bytes) c.image-image.ensures.same c.spell.ensures)
+          (c.spell.auto.bytes ∙ length-take-le c.size-size.result c.args.bytes.now (omega (arith, c.size-size.ensures.most, sized, many, long, c.if-needed-bytes.false))) same,
     )
 
 -- the code is the same, as a number of 32 bits

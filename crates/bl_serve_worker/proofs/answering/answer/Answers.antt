@@ -16,6 +16,9 @@ returns-in-None-clause-answers g c = on_ok_weaker c.push_word_line-in-None.resul
 pub returns-in-Some-Scan-clause-noted : goal.returns-in-Some-Scan-clause-noted
 returns-in-Some-Scan-clause-noted g c = on_ok_weaker c.scan-answered.result (λ is. answered_notes c.args.handle.now c.scan-answered.new.handle c.args.aside.now _ _ _ _ tt c.scan-answered.ensures.same is) c.scan-answered.ensures.answers
 
+pub returns-in-Some-Save-clause-noted : goal.returns-in-Some-Save-clause-noted
+returns-in-Some-Save-clause-noted g c = on_ok_weaker c.save-answered.result (λ is. answered_notes c.args.handle.now c.save-answered.new.handle c.args.aside.now _ _ _ _ tt c.save-answered.ensures.same is) c.save-answered.ensures.answers
+
 pub returns-in-Some-Stat-clause-noted : goal.returns-in-Some-Stat-clause-noted
 returns-in-Some-Stat-clause-noted g c = on_ok_weaker c.state-answered.result (λ is. no_notes c.args.handle.now c.args.aside.now) c.state-answered.ensures
 

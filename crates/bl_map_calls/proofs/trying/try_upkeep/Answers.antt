@@ -1,9 +1,0 @@
-use Rattle.bl_index.specs.Calls.{trail}
-use Rattle.bl_map_calls.proofs.Pieces.{keeps_add, keeps_on}
-use Rattle.bl_map_calls.proofs.trying.try_upkeep.Goals as goal
-
-pub returns-clause-keeps : goal.returns-clause-keeps
-returns-clause-keeps c = keeps_on _ _ _ _ _ _ _ _ _ _ c.try_pieces.ensures.same.2 c.try_pieces.ensures.tries c.look_where_dropped.ensures.mends
-
-pub returns-clause-adds : goal.returns-clause-adds
-returns-clause-adds c = keeps_add _ _ _ _ _ _ _ (keeps_on _ _ _ _ _ _ _ _ _ _ c.try_pieces.ensures.same.2 c.try_pieces.ensures.tries c.look_where_dropped.ensures.mends)

@@ -1,0 +1,2 @@
+pub mod GoingOn
+pub mod Pieces
