@@ -1,6 +1,6 @@
 //! What a server says at its end. But for the line on malformed requests, these are tested.
 
-ghost use Rattle.std.specs.Prelude.{◌≡◌, ◌≢◌, IfOk, string_bytes};
+ghost use Rattle.std.specs.Prelude.{◌≡◌, ◌≢◌, ◌++◌, IfOk, string_bytes};
 ghost use Rattle.bl_cli_streams.specs.Counted.{malformed_text, one_malformed_text, wrong_text};
 
 use bl_image::Image;
