@@ -79,3 +79,17 @@ lefts_own Does may_grow whole [] (w ∷ ws) fresh turns = absurd turns
 lefts_own Does may_grow whole (v ∷ vs) [] fresh turns = absurd turns
 lefts_own Does may_grow whole (v ∷ vs) (w ∷ ws) fresh turns =
     (own_seat whole w (turned_index Does may_grow v w turns.0 ∙ fresh.0.0), lefts_own Does may_grow whole vs ws fresh.1 turns.1)
+
+pub round_made : {J : Type 0} (Does : Doing J) (may_grow : Bool) (whole : Map) (seats lefts : List Pass) (tasks rests : List (Task J)) (before after : List (Worker J))
+    → All (IsFresh whole) before → seats_of before ≡ seats → tasks_of before ≡ tasks → AllZip (HasTurn Does may_grow) before after → lefts ≡ seats_of after → rests ≡ tasks_of after
+    → MakesRound Does may_grow whole seats tasks lefts rests
+round_made Does may_grow whole seats lefts tasks rests before after fresh seats_are tasks_are turns lefts_are rests_are = record {
+  before = before;
+  after = after;
+  fresh = fresh;
+  seats_are = seats_are;
+  tasks_are = tasks_are;
+  turns = turns;
+  lefts_are = sym lefts_are;
+  rests_are = sym rests_are;
+}

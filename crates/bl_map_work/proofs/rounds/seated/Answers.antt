@@ -22,7 +22,7 @@ loop-seats-preserved g c =
       seats_are = seats_moved c.loop-seats.workers.items c.push_reserved.new.self.items c.loop-seats.seats.items c.remove.new.self.items c.args.seats.now.items c.remove.result worker seat is c.handle-handle.ensures.1 inv.seats_are;
       tasks_are = tasks_moved c.loop-seats.workers.items c.push_reserved.new.self.items c.loop-seats.tasks.items c.remove-task.new.self.items c.args.tasks.now.items c.remove-task.result worker task is refl inv.tasks_are;
       rooms = (c.remove.ensures.capacity ∙ inv.rooms.0, c.remove-task.ensures.capacity ∙ inv.rooms.1);
-      space = rw c.push_reserved.ensures.capacity in omega (arith, c.push_reserved.ensures.len, c.remove.ensures.len, inv.space);
+      space = (rw c.push_reserved.ensures.capacity in omega (arith, c.push_reserved.ensures.len, c.remove.ensures.len, inv.space));
     }
 
 pub returns-clause-seated : goal.returns-clause-seated
