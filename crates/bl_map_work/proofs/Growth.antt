@@ -1,5 +1,5 @@
 -- What comes behind a round that leaves work.
-use Rattle.std.proofs.Common.{◌≡◌, ◌<◌, ◌↔◌, ℕ, Bool, true, false, List, IsTrue, sym, ap, subst, subst₂}
+use Rattle.std.proofs.Common.{◌≡◌, ◌<◌, ◌↔◌, ℕ, Bool, true, false, List, IsTrue, true≢false, ◌∙◌, sym, ap, subst, subst₂}
 use Rattle.bl_check.specs.declared.quiet.Quiet.{Quiet}
 use Rattle.bl_index.specs.Calls.{pages_of}
 use Rattle.bl_index.specs.Resized.{IsResizeFault}
@@ -15,10 +15,9 @@ use Rattle.bl_map_work.specs.Rounds.GrowsByRounds.{Grown}
 use Rattle.bl_map_work.specs.Rounds.ComesToLast.{Refused}
 
 pub not_done : {A : Type 0} (b : Bool) → b ≡ false → (IsTrue b ↔ A) → ¬ A
-not_done false is both = λ a. both.1 a
-not_done true is both = absurd is
+not_done b is both = λ a. true≢false (sym (both.1 a) ∙ is)
 
-as_map : Index → Map
+abbrev as_map : Index → Map
 as_map index = record { index = index }
 
 same_map : (back whole : Map) → back.index ≡ whole.index → back ≡ whole

@@ -5,7 +5,8 @@ use Rattle.std.specs.List.{AllZip}
 use Rattle.bl_index.specs.Calls.{IsPassOf}
 use Rattle.bl_index.specs.declared.index.Pass.{Pass}
 use Rattle.bl_map.specs.Handles.{index_of, seat_of}
-use Rattle.bl_map.specs.Maps.{AreSeatsOf, IsNewHandle}
+use Rattle.std.proofs.lemmas.List.Elements.{All-nil, All-cons, All-head, All-tail}
+use Rattle.bl_map.specs.Maps.{AreSeatsOf, IsSeatOf}
 use Rattle.bl_map.specs.declared.map.Map.{Map}
 use Rattle.bl_map_work.specs.declared.job.Task.{Task}
 use Rattle.bl_map_work.specs.declared.rounds.Worker.{Worker}
@@ -74,22 +75,18 @@ turned_index Does may_grow old new (inr rest) = ap (λ (w : Worker _). index_of 
 -- the seats that a round leaves are the map's
 pub lefts_own : {J : Type 0} (Does : Doing J) (may_grow : Bool) (whole : Map) (before after : List (Worker J))
     → All (IsFresh whole) before → AllZip (HasTurn Does may_grow) before after → AreSeatsOf whole (seats_of after)
-lefts_own Does may_grow whole [] [] fresh turns = tt
+lefts_own Does may_grow whole [] [] fresh turns = All-nil (IsSeatOf whole)
 lefts_own Does may_grow whole [] (w ∷ ws) fresh turns = absurd turns
 lefts_own Does may_grow whole (v ∷ vs) [] fresh turns = absurd turns
 lefts_own Does may_grow whole (v ∷ vs) (w ∷ ws) fresh turns =
-    (own_seat whole w (turned_index Does may_grow v w turns.0 ∙ fresh.0.0), lefts_own Does may_grow whole vs ws fresh.1 turns.1)
+    All-cons (IsSeatOf whole) (seat_of w.handle) (seats_of ws) (own_seat whole w (turned_index Does may_grow v w turns.0 ∙ (All-head (IsFresh whole) v vs fresh).0))
+        (lefts_own Does may_grow whole vs ws (All-tail (IsFresh whole) v vs fresh) turns.1)
 
-pub round_made : {J : Type 0} (Does : Doing J) (may_grow : Bool) (whole : Map) (seats lefts : List Pass) (tasks rests : List (Task J)) (before after : List (Worker J))
-    → All (IsFresh whole) before → seats_of before ≡ seats → tasks_of before ≡ tasks → AllZip (HasTurn Does may_grow) before after → lefts ≡ seats_of after → rests ≡ tasks_of after
-    → MakesRound Does may_grow whole seats tasks lefts rests
-round_made Does may_grow whole seats lefts tasks rests before after fresh seats_are tasks_are turns lefts_are rests_are = record {
-  before = before;
-  after = after;
-  fresh = fresh;
-  seats_are = seats_are;
-  tasks_are = tasks_are;
-  turns = turns;
-  lefts_are = sym lefts_are;
-  rests_are = sym rests_are;
-}
+go_back : {A : Type 0} (xs ys : List A) → length ys ≡ length xs → take (length ys) (ys ++ drop (length ys) xs) ≡ ys
+go_back xs [] same = refl
+go_back [] (y ∷ ys) same = absurd (omega (arith, same))
+go_back (x ∷ xs) (y ∷ ys) same = ap (λ (z : List _). y ∷ z) (go_back xs ys (omega (arith, same)))
+
+-- a list that was written over as long as it is
+pub written_back : {A : Type 0} (xs ys : List A) (n : ℕ) → length ys ≡ length xs → n ≡ length ys → take n (ys ++ drop (length ys) xs) ≡ ys
+written_back xs ys n same is = subst (λ (z : ℕ). take z (ys ++ drop (length ys) xs) ≡ ys) (sym is) (go_back xs ys same)
