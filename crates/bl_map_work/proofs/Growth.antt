@@ -1,5 +1,5 @@
 -- What comes behind a round that leaves work.
-use Rattle.std.proofs.Common.{◌≡◌, ◌<◌, ◌↔◌, ℕ, Bool, true, false, List, IsTrue, true≢false, ◌∙◌, sym, ap, subst, subst₂}
+use Rattle.std.proofs.Common.{◌≡◌, ◌↔◌, ℕ, Bool, false, List, IsTrue, true≢false, ◌∙◌, sym, ap, subst, subst₂}
 use Rattle.bl_check.specs.declared.quiet.Quiet.{Quiet}
 use Rattle.bl_index.specs.Calls.{pages_of}
 use Rattle.bl_index.specs.Resized.{IsResizeFault}
@@ -33,7 +33,7 @@ module _ {J : Type 0} (Does : Doing J) (most : ℕ) (first : Map) (seats : List 
       → ComesToLast Does most first seats tasks back backs rests
   refused_once back backs why same its fault =
       subst₂ (λ (m : Map) (l : List Pass). ComesToLast Does most first seats tasks m l rests) (sym (same_map back whole same)) (sym its)
-          (Refused befores works why grown leaves (subst (λ (z : ℕ). IsResizeFault whole.index lefts z why) is fault))
+      (Refused befores works why grown leaves (subst (λ (z : ℕ). IsResizeFault whole.index lefts z why) is fault))
 
   pub closed_once : (quiet : Quiet) → IsMapNotResized whole lefts size (unresized.Closed quiet) → WasClosed Does most first seats tasks quiet rests
   closed_once quiet closed = record {

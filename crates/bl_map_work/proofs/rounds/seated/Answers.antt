@@ -29,6 +29,7 @@ loop-seats-preserved g c =
 pub returns-clause-seated : goal.returns-clause-seated
 returns-clause-seated g c =
     let inv = c.loop-seats.invariant in
-    let none : length c.loop-seats.seats.items ≡ 0 = grind (arith, common_steps) in
-    (none_left (seats_of c.loop-seats.workers.items) c.loop-seats.seats.items c.args.seats.now.items none inv.seats_are,
-     none_left (tasks_of c.loop-seats.workers.items) c.loop-seats.tasks.items c.args.tasks.now.items (omega (arith, inv.pairs, none)) inv.tasks_are)
+    let none : length c.loop-seats.seats.items ≡ 0 = grind (arith, common_steps) in (
+      none_left (seats_of c.loop-seats.workers.items) c.loop-seats.seats.items c.args.seats.now.items none inv.seats_are,
+      none_left (tasks_of c.loop-seats.workers.items) c.loop-seats.tasks.items c.args.tasks.now.items (omega (arith, inv.pairs, none)) inv.tasks_are,
+    )

@@ -16,14 +16,15 @@ returns-then-most-pages-clause-grown g c = AtMost c.loop-round.invariant.so_far 
 pub returns-then-are_done-clause-grown : goal.returns-then-are_done-clause-grown
 returns-then-are_done-clause-grown g c =
     Done c.loop-round.seats.items c.loop-round.tasks.items c.loop-round.invariant.so_far c.in_default.ensures.round
-        (subst (λ tasks. AreDone tasks) c.as_slice.ensures.value (c.are_done.ensures.0 c.if-are_done.true))
+    (subst (λ tasks. AreDone tasks) c.as_slice.ensures.value (c.are_done.ensures.0 c.if-are_done.true))
 
 -- no round was made: seats and tasks are as they were
 pub returns-in-Err-clause-fault : goal.returns-in-Err-clause-fault
 returns-in-Err-clause-fault g c =
-    let kept = c.in-Err.ensures.kept in
-    (inl (subst₂ (λ seats tasks. GrowsByRounds g.J.Job.Does c.args.most c.args.map c.args.seats.items c.args.tasks.items c.loop-round.map seats tasks) (sym kept.0) (sym kept.1) c.loop-round.invariant.so_far),
-     subst₂ (λ seats tasks. IsWorkFault seats tasks c.in-Err.why) (sym kept.0) (sym kept.1) c.in-Err.ensures.fault)
+    let kept = c.in-Err.ensures.kept in (
+      inl (subst₂ (λ seats tasks. GrowsByRounds g.J.Job.Does c.args.most c.args.map c.args.seats.items c.args.tasks.items c.loop-round.map seats tasks) (sym kept.0) (sym kept.1) c.loop-round.invariant.so_far),
+      subst₂ (λ seats tasks. IsWorkFault seats tasks c.in-Err.why) (sym kept.0) (sym kept.1) c.in-Err.ensures.fault,
+    )
 
 pub loop-round-preserved : goal.loop-round-preserved
 loop-round-preserved g c =
@@ -54,7 +55,7 @@ returns-in-Err-Kept-clause-grown g c =
     } in
     let kept = rw c.in-Err-Kept.field-0-is at c.in-Err-Kept.ensures.fault in
     rw c.in-Err-Kept.field-0-is (refused_once g.J.Job.Does c.args.most c.args.map c.args.seats.items c.args.tasks.items c.loop-round.map c.loop-round.seats.items c.make_round.new.seats.items c.loop-round.tasks.items c.make_round.new.tasks.items c.larger.result
-        c.loop-round.invariant.so_far leaves (subst (λ z. c.larger.result ≡ larger z c.args.most) c.pages-pages.ensures c.larger.ensures) c.in-Err-Kept.back c.in-Err-Kept.seats_back.items c.in-Err-Kept.field-0-2 kept.0 kept.1 kept.2)
+    c.loop-round.invariant.so_far leaves (subst (λ z. c.larger.result ≡ larger z c.args.most) c.pages-pages.ensures c.larger.ensures) c.in-Err-Kept.back c.in-Err-Kept.seats_back.items c.in-Err-Kept.field-0-2 kept.0 kept.1 kept.2)
 
 pub returns-in-Err-Closed-clause-fault : goal.returns-in-Err-Closed-clause-fault
 returns-in-Err-Closed-clause-fault g c =
@@ -66,4 +67,4 @@ returns-in-Err-Closed-clause-fault g c =
     } in
     let closed = rw c.in-Err-Closed.field-0-is at c.in-Err-Closed.ensures.fault in
     rw c.in-Err-Closed.field-0-is (closed_once g.J.Job.Does c.args.most c.args.map c.args.seats.items c.args.tasks.items c.loop-round.map c.loop-round.seats.items c.make_round.new.seats.items c.loop-round.tasks.items c.make_round.new.tasks.items c.larger.result
-        c.loop-round.invariant.so_far leaves (subst (λ z. c.larger.result ≡ larger z c.args.most) c.pages-pages.ensures c.larger.ensures) c.in-Err-Closed.image closed)
+    c.loop-round.invariant.so_far leaves (subst (λ z. c.larger.result ≡ larger z c.args.most) c.pages-pages.ensures c.larger.ensures) c.in-Err-Closed.image closed)

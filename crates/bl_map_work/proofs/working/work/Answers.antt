@@ -1,5 +1,5 @@
-use Rattle.std.proofs.Common.{◌≡◌, false, true, subst}
-use Rattle.bl_map_work.specs.Rounds.{ComesToLast, EndsGrowing, IsWorked}
+use Rattle.std.proofs.Common.{subst}
+use Rattle.bl_map_work.specs.Rounds.{EndsGrowing}
 use Rattle.bl_map_work.specs.Rounds.IsWorked.{Last}
 use Rattle.bl_map_work.proofs.Lived.{last_keeps, worked_keeps}
 use Rattle.bl_map_work.proofs.working.work.Goals as goal
