@@ -1,6 +1,7 @@
 //! The load of `bench_map index` on a plain Rust `RwLock<BTreeMap>`, for comparison. `index_twin ROWS THREADS FINDS MIXED SCANS`
 //! prints what `bench_map index` prints. `index_twin large ROWS THREADS CALLS rising|random` does the load of `bench_map`, and prints what that
 //! prints of rows, finds and scans; with 0 for CALLS nine of ten rows are deleted in place of the searches, and those that are left are counted.
+//! Behind each part it waits for a line then, so that its memory can be looked at.
 
 #[path = "peers.d/drawn.rs"]
 mod drawn;
@@ -8,6 +9,7 @@ mod drawn;
 use drawn::{WIDTH, row_of, scattered, width};
 use std::collections::BTreeMap;
 use std::env;
+use std::io;
 use std::sync::RwLock;
 use std::sync::atomic::{AtomicU64, Ordering};
 use std::thread;
@@ -135,10 +137,13 @@ impl Large {
 
     /// Deletes all rows but one of ten.
     fn thin_out(&self, map: &Map) {
+        let wait = || io::stdin().read_line(&mut String::new());
+        let _ = wait();
         self.timed("gone", self.rows, |place| {
             let rows = (place..self.rows).step_by(self.threads as usize);
             rows.filter(|row| row % KEPT == 0 || map.write().unwrap().remove(&self.key(*row)) == Some(*row)).count() as u64
         });
+        let _ = wait();
         println!("left {} {} 0 0", self.rows.div_ceil(KEPT), map.read().unwrap().len());
     }
 

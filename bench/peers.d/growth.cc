@@ -1,6 +1,7 @@
 // The load of bench/growth on this index, by its package for C++: growth PAGES ROWS THREADS rising|random. The threads insert the rows, then
 // nine of ten are deleted. With 0 for PAGES the map grows and shrinks by itself, else it keeps its pages. It prints for each part how many calls
-// were made, how many of them were answered as they should be, the microseconds of all together, those of the longest call, and the pages then.
+// were made, how many of them were answered as they should be, the microseconds of all together, those of the longest call, and the pages then; and
+// waits for a line, so that its memory can be looked at.
 #include <atomic>
 #include <x86intrin.h>
 
@@ -29,6 +30,7 @@ template <class Work> void part(const Large& load, const char* name, blink::Map&
     u64 calls = load.rows / load.threads * load.threads;
     std::printf("%s %llu %llu %lld %.0f %u\n", name, (unsigned long long)calls, (unsigned long long)done, (long long)passed, pause, map.pages());
     std::fflush(stdout);
+    std::getchar();
 }
 
 int main(int count, char** words) {

@@ -1,6 +1,7 @@
 // The load of `bench_map` on another map: PEER large ROWS THREADS CALLS rising|random prints what `bench_map` prints of rows, finds and scans:
 // part, calls, how many were answered as they should be, and the microseconds of all together. The keys are the same. With 0 for CALLS nine of ten
-// rows are deleted in place of the searches, and those that are left are looked for.
+// rows are deleted in place of the searches, and those that are left are looked for; behind each part it waits for a line, so that its memory can be
+// looked at.
 #pragma once
 #include <algorithm>
 #include <chrono>
@@ -32,6 +33,7 @@ template <class Peer> constexpr bool erases = true;
 constexpr u64 KEPT = 10;
 
 template <class Peer> void thin_out(const Large& load, Peer& peer) {
+    std::getchar();
     if constexpr (erases<Peer>) {
         timed(load, "gone", load.rows, [&](u64 place) {
             u64 done = 0;
@@ -39,6 +41,7 @@ template <class Peer> void thin_out(const Large& load, Peer& peer) {
                 if (row % KEPT) peer.erase(load.key(row));
             return done;
         });
+        std::getchar();
         u64 left = 0, value;
         for (u64 row = 0; row < load.rows; row++) left += peer.find(load.key(row), value);
         std::printf("left %llu %llu 0 0\n", (unsigned long long)((load.rows + KEPT - 1) / KEPT), (unsigned long long)left);

@@ -1,5 +1,5 @@
 -- A map that rounds have grown goes on behind the lives of the one that they began with.
-use Rattle.std.proofs.Common.{◌≡◌, ℕ, ◌++◌, List, [], ◌∷◌, ◌∙◌, refl, sym, subst, append_assoc, append-nil}
+use Rattle.std.proofs.Common.{ℕ, ◌++◌, List, [], ◌∷◌, sym, subst, append_assoc, append-nil}
 use Rattle.bl_model.specs.Map.{Map as PlainMap}
 use Rattle.bl_index.specs.Lives.{Life, life_of, GoesOnBehind}
 use Rattle.bl_index.specs.declared.index.Pass.{Pass}
@@ -26,7 +26,7 @@ grown_keeps Does most first seats tasks whole lefts rests NotYet = no_more first
 grown_keeps Does most first seats tasks whole lefts rests (Grown old befores works grown more) = λ m lives on.
     let so_far = grown_keeps Does most first seats tasks old befores works grown m lives on in
     one_more m lives so_far.more (life_of old.index more.resized.closes.whole) whole
-        (resized_life m (lives ++ so_far.more) old.index more.lefts _ whole.index lefts more.resized so_far.behind)
+    (resized_life m (lives ++ so_far.more) old.index more.lefts _ whole.index lefts more.resized so_far.behind)
 
 pub last_keeps : {J : Type 0} (Does : Doing J) (most : ℕ) (first : Map) (seats : List Pass) (tasks : List (Task J)) (whole : Map) (lefts : List Pass) (rests : List (Task J))
     → ComesToLast Does most first seats tasks whole lefts rests → KeepsLives first whole

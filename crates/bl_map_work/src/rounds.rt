@@ -53,11 +53,7 @@ fn seated<'a, J: Drop>(
 }
 
 /// Puts the seats and tasks of workers back, in their order.
-fn give_back<J: Drop>(
-    workers: Vec<Worker<'_, J>>,
-    seats: &mut Vec<Seat>,
-    tasks: &mut Vec<Task<J>>,
-)
+fn give_back<J: Drop>(workers: Vec<Worker<'_, J>>, seats: &mut Vec<Seat>, tasks: &mut Vec<Task<J>>)
     requires empty { (seats.old.items ≡ []) × (tasks.old.items ≡ []) }
     requires room { (vec_len workers ≤ vec_capacity seats.old) × (vec_len workers ≤ vec_capacity tasks.old) }
     ensures { (seats.new.items ≡ seats_of workers.entry.items) × (tasks.new.items ≡ tasks_of workers.entry.items) }

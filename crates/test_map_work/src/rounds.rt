@@ -143,7 +143,11 @@ fn rested<R: Threads + Wait + Sync>(rt: &R, alloc: Global) -> Option<(bool, u64,
     let [first, second] = tasks.as_slice() else {
         return None;
     };
-    Some((second.is_done && second.job.turns == 0, first.job.turns, rows))
+    Some((
+        second.is_done && second.job.turns == 0,
+        first.job.turns,
+        rows,
+    ))
 }
 
 #[test]

@@ -19,7 +19,7 @@ const SPAN: u64 = 24;
 const MORE_PAGES: u32 = 16;
 const PAUSE: Duration = Duration::from_millis(3);
 
-/// A map that shrinks by itself does so down to so many, and gets so many then.
+/// A map that shrinks by itself keeps so many at least; one with fewer than twice as many gets so many.
 const LEAST_PAGES: u32 = 1024;
 const MANY_PAGES: u32 = 4096;
 
@@ -156,7 +156,7 @@ fn resize(map: &Map, shrinks: bool, is_over: &AtomicBool) {
         std::thread::sleep(PAUSE);
         let pages = map.pages();
         SHRINKS.fetch_add((pages < last) as u64, Ordering::SeqCst);
-        last = if shrinks && pages <= LEAST_PAGES { MANY_PAGES } else { pages + MORE_PAGES };
+        last = if shrinks && pages < 2 * LEAST_PAGES { MANY_PAGES } else { pages + MORE_PAGES };
         match map.resize(last) {
             Ok(()) => RESIZES.fetch_add(1, Ordering::SeqCst),
             // It has grown by itself meanwhile.

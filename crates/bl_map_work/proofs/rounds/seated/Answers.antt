@@ -1,4 +1,5 @@
 use Rattle.std.proofs.Common.{◌≡◌, ◌∙◌, ◌<◌, All, length, refl, sym, ap, subst, arith}
+use Rattle.std.proofs.lemmas.Grind.{common_steps}
 use Rattle.std.proofs.lemmas.List.Elements.{All-push}
 use Rattle.bl_map.proofs.Handed.{first_taken, left_own}
 use Rattle.bl_map_work.specs.declared.rounds.Worker.{Worker}
@@ -22,13 +23,13 @@ loop-seats-preserved g c =
       seats_are = seats_moved c.loop-seats.workers.items c.push_reserved.new.self.items c.loop-seats.seats.items c.remove.new.self.items c.args.seats.now.items c.remove.result worker seat is c.handle-handle.ensures.1 inv.seats_are;
       tasks_are = tasks_moved c.loop-seats.workers.items c.push_reserved.new.self.items c.loop-seats.tasks.items c.remove-task.new.self.items c.args.tasks.now.items c.remove-task.result worker task is refl inv.tasks_are;
       rooms = (c.remove.ensures.capacity ∙ inv.rooms.0, c.remove-task.ensures.capacity ∙ inv.rooms.1);
-      space = rw c.push_reserved.ensures.capacity in omega (arith, c.push_reserved.ensures.len, c.remove.ensures.len, inv.space);
+      space = rw c.push_reserved.ensures.capacity (omega (arith, c.push_reserved.ensures.len, c.remove.ensures.len, inv.space));
     }
 
 pub returns-clause-seated : goal.returns-clause-seated
 returns-clause-seated g c =
     let inv = c.loop-seats.invariant in
-    let l = c.loop-seats.seats.ok in
-    let none : length c.loop-seats.seats.items ≡ 0 = omega (arith, l) in
-    (none_left (seats_of c.loop-seats.workers.items) c.loop-seats.seats.items c.args.seats.now.items none inv.seats_are,
-     none_left (tasks_of c.loop-seats.workers.items) c.loop-seats.tasks.items c.args.tasks.now.items (omega (arith, inv.pairs, none)) inv.tasks_are)
+    let none : length c.loop-seats.seats.items ≡ 0 = grind (arith, common_steps) in (
+      none_left (seats_of c.loop-seats.workers.items) c.loop-seats.seats.items c.args.seats.now.items none inv.seats_are,
+      none_left (tasks_of c.loop-seats.workers.items) c.loop-seats.tasks.items c.args.tasks.now.items (omega (arith, inv.pairs, none)) inv.tasks_are,
+    )
