@@ -33,14 +33,6 @@ pub tasks_more : {J : Type 0} (xs ys : List (Worker J)) → tasks_of (xs ++ ys) 
 tasks_more [] ys = refl
 tasks_more {J} (x ∷ xs) ys = ap (λ (z : List (Task J)). x.task ∷ z) (tasks_more xs ys)
 
-pub as_many_seats : {J : Type 0} (xs : List (Worker J)) → length (seats_of xs) ≡ length xs
-as_many_seats [] = refl
-as_many_seats (x ∷ xs) = ap suc (as_many_seats xs)
-
-pub as_many_tasks : {J : Type 0} (xs : List (Worker J)) → length (tasks_of xs) ≡ length xs
-as_many_tasks [] = refl
-as_many_tasks (x ∷ xs) = ap suc (as_many_tasks xs)
-
 pub none_left : {A : Type 0} (xs ys zs : List A) → length ys ≡ 0 → xs ++ ys ≡ zs → xs ≡ zs
 none_left xs [] zs none whole = sym (append-nil xs) ∙ whole
 none_left xs (y ∷ ys) zs none whole = absurd (omega (arith, none))
