@@ -25,8 +25,6 @@ struct Filling {
 }
 
 impl<R: Wait> Job<R> for Filling {
-    ghost use Rattle.std.specs.Prelude.{Unit};
-
     ghost Does = { λ may_grow before handle done after left. Unit {0} };
 
     fn go_on(&mut self, rt: &R, handle: &mut Handle<'_>, may_grow: bool) -> bool {
@@ -112,19 +110,16 @@ fn filled_by_two<R: Threads + Wait + Sync>(
 
 #[test]
 fn a_map_grows_by_two_between_rounds(rt: HostRuntime) {
-    let Some((pages, rows, done, refused)) = filled_by_two(&rt, rt.alloc(), 16_384) else {
-        panic!()
-    };
-    assert!(rt; pages == 2_048 || pages == 4_096);
-    assert!(rt; rows == ROWS && done == 2 && refused == 0);
+    let seen = filled_by_two(&rt, rt.alloc(), 16_384);
+    assert!(rt; seen == Some((2_048, ROWS, 2, 0)) || seen == Some((4_096, ROWS, 2, 0)));
 }
 
 #[test]
 fn behind_the_most_pages_comes_one_round_more(rt: HostRuntime) {
     // 1,000 pages have room for 5,990 rows at least, and for 13,972 at most.
-    let Some((pages, rows, done, refused)) = filled_by_two(&rt, rt.alloc(), 1_000) else {
-        panic!()
-    };
+    let (pages, rows, done, refused) = filled_by_two(&rt, rt.alloc(), 1_000).unwrap_or((
+        0, 0, 0, 0,
+    ));
     assert!(rt; pages == 1_000 && done == 2);
     assert!(rt; 5_990 <= rows && rows <= 13_972);
     assert!(rt; rows.saturating_add(refused) == ROWS);
@@ -152,9 +147,7 @@ fn rested<R: Threads + Wait + Sync>(rt: &R, alloc: Global) -> Option<(bool, u64,
 
 #[test]
 fn a_job_that_is_done_rests(rt: HostRuntime) {
-    let Some((rests, turns, rows)) = rested(&rt, rt.alloc()) else {
-        panic!()
-    };
+    let (rests, turns, rows) = rested(&rt, rt.alloc()).unwrap_or((false, 0, 0));
     assert!(rt; rests && turns > 1 && rows == ROWS / 2);
 }
 
