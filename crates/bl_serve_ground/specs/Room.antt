@@ -8,8 +8,8 @@ use Rattle.bl_serve_ground.specs.declared.ground.Limits.{Limits}
 use Rattle.bl_serve_ground.specs.declared.sizing.Load.{Load}
 use Rattle.bl_serve_ground.specs.declared.spare.Spare.{Spare}
 
--- So many leaves at most are split by so many insertions among so many deletions, where so many pages are used: each leaf may be full, and one that was
--- split is full again behind seven insertions at the earliest, or behind a merge of what seven deletions have left.
+-- So many leaves more there are at most behind so many insertions among so many deletions, where so many pages are used: each leaf may be full, and one
+-- that was split is full again behind seven insertions at the earliest. Where deletions merge leaves meanwhile, their pages may be free again only later.
 abbrev pub splits : ℕ → ℕ → ℕ → ℕ
 splits insertions deletions used = min insertions (used + insertions / 7 + deletions / 7)
 
