@@ -73,7 +73,9 @@ fn filled<R: Threads + Wait + Sync>(
     tasks: Vec<Task<Filling>>,
 ) -> Option<(u32, u64, Vec<Task<Filling>>)> {
     let (map, seats) = opened(alloc)?;
-    let (map, mut seats, tasks) = work(rt, map, seats, tasks, most).ok()?;
+    let Ok((map, mut seats, tasks)) = work(rt, map, seats, tasks, most) else {
+        return None;
+    };
     let rows = map.handle(seats.pop()?).count(rt, 0, None);
     Some((map.pages(), rows, tasks))
 }
